@@ -1,0 +1,9 @@
+// Reading one line of bytes, given without its end, as a command or as an answer.
+mod fault;
+mod message;
+
+pub use fault::Fault;
+pub use fault::Layer;
+pub use message::Address;
+pub use message::Message;
+pub use message::Side;
