@@ -1,5 +1,9 @@
 // Reading one line of bytes, given without its end, as a command or as an answer.
+mod address;
+mod body;
+mod check;
 mod fault;
+mod mark;
 mod message;
 
 pub use fault::Fault;
