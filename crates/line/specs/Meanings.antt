@@ -81,3 +81,9 @@ message-of (Command a m b c) = record { side = command; address = placed a; mark
 abbrev pub read-of : Result Message Fault → Read
 read-of (Ok m) = meant (message-of m)
 read-of (Err f) = told f
+
+-- the check that a message keeps: that of a command, if it has one
+abbrev pub check-said : Message → Option ℕ
+check-said (Answer a m b) = None
+check-said (Event a b) = None
+check-said (Command a m b c) = c

@@ -1,8 +1,13 @@
 // The body of a line: fields, each ended by a colon outside an escape, of which the first has a form of its own.
 ghost use mathlib.Core.Path.{_≡_};
 ghost use Rattle.line.specs.Forms.{capital, name-byte, every, is-status, is-name, is-first-field};
+ghost use Rattle.std.specs.Options.{isSome, mapped};
+ghost use Rattle.escape.specs.Tokens.{parts};
+ghost use Rattle.line.specs.Lines.{all-ended, fields-of};
 ghost use Rattle.line.specs.Meanings.{side-of};
+ghost use Rattle.line.specs.Reads.{behind, first-of};
 use crate::message::Side;
+use escape::cut;
 
 fn is_name_byte(b: u8) -> bool
     ensures { λ r. ⌜ r ≡ name-byte b ⌝ }
@@ -46,4 +51,25 @@ pub fn is_first_field(side: Side, field: &[u8]) -> bool
         Side::Command => is_name(field),
         Side::Answer => is_status(field),
     }
+}
+
+// Whether a colon outside an escape ends each field, of which there may be none.
+fn all_ended(fields: &[u8]) -> bool
+    ensures { λ r. ⌜ r ≡ isSome (all-ended (parts 58 (now (fields .entry)))) ⌝ }
+{
+    let mut rest = fields;
+    loop {
+        match cut(rest, b':') {
+            Some((_, after)) => rest = after,
+            None => return rest.is_empty(),
+        }
+    }
+}
+
+// The first field of a body, if a colon outside an escape ends it and each that follows.
+pub(crate) fn first_field(body: &[u8]) -> Option<&[u8]>
+    ensures { λ r. ⌜ behind r ≡ first-of (fields-of (now (body .entry))) ⌝ }
+{
+    let (first, later) = cut(body, b':')?;
+    if all_ended(later) { Some(first) } else { None }
 }
