@@ -26,7 +26,7 @@ pub fn fill_at(dst: &mut [u8], at: usize, src: &[u8]) -> usize
 
 // Copies as much as fits of what `src` holds from `first` up to `end` to the front of `dst`, and answers how much.
 pub fn fill_from(dst: &mut [u8], src: &[u8], first: usize, end: usize) -> usize
-    ensures count { λ k. ⌜ k ≡ min (length (now (dst .entry))) (length (part (now (src .entry)) first end)) ⌝ }
+    ensures count { λ k. ⌜ k ≡ min (length (now (dst .entry))) (min end (length (now (src .entry))) - first) ⌝ }
     ensures after { λ k. ⌜ now (dst .exit) ≡ take k (part (now (src .entry)) first end) ++ drop k (now (dst .entry)) ⌝ }
 {
     let stop = end.min(src.len());
