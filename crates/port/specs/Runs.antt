@@ -30,5 +30,37 @@ pub data Ran (start : Meaning) : History → Meaning → Type 0 where
   room : {h : History} {m : Meaning} → Ran start h m → Ran start (Room ∷ h) m
   clear : {h : History} {m z : Meaning} {value : Bool} → Ran start h m → Cleared m z value → Ran start (Clear value ∷ h) z
 
--- The bytes that a call moved in each of the four ways.
-abbrev pub arrives departs reads writes : Call → List ℕ
+-- The bytes moved in each of the four ways, in their order.
+pub record Traffic : Type 0 where
+  pub arrived : List ℕ
+  pub departed : List ℕ
+  pub fetched : List ℕ
+  pub written : List ℕ
+
+-- What one call moved: the first bytes of what was offered, or of the buffer that was filled.
+abbrev pub moved : Call → Traffic
+moved (Arrive bytes k) = record { arrived = take k bytes; departed = []; fetched = []; written = [] }
+moved (Depart buffer k) = record { arrived = []; departed = take k buffer; fetched = []; written = [] }
+moved (Read buffer k) = record { arrived = []; departed = []; fetched = take k buffer; written = [] }
+moved (Write bytes k) = record { arrived = []; departed = []; fetched = []; written = take k bytes }
+moved Room = record { arrived = []; departed = []; fetched = []; written = [] }
+moved (Clear value) = record { arrived = []; departed = []; fetched = []; written = [] }
+
+-- What all the calls moved.
+abbrev pub traffic : History → Traffic
+traffic [] = record { arrived = []; departed = []; fetched = []; written = [] }
+traffic (c ∷ h) = record {
+  arrived = traffic h .arrived ++ moved c .arrived;
+  departed = traffic h .departed ++ moved c .departed;
+  fetched = traffic h .fetched ++ moved c .fetched;
+  written = traffic h .written ++ moved c .written;
+}
+
+-- The bytes that went out of each side, followed by those that are there, are those that were there at the start, followed by those that came in.
+pub record Kept (start end : Meaning) (t : Traffic) : Type 0 where
+  pub incoming : t .fetched ++ end .incoming ≡ start .incoming ++ t .arrived
+  pub outgoing : t .departed ++ end .outgoing ≡ start .outgoing ++ t .written
+
+-- Over any run of calls, both sides keep their bytes, in order.
+abbrev pub Kept-in-order : Type 0
+Kept-in-order = (start end : Meaning) (h : History) → Ran start h end → Kept start end (traffic h)

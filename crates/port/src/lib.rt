@@ -2,8 +2,10 @@
 ghost use mathlib.Core.Path.{_≡_};
 ghost use Rattle.port.specs.Port.{Meaning, Arrived, Departed, Fetched, Written, Cleared, HungUp};
 
+mod law;
 mod line_control;
 
+pub use law::bytes_are_kept;
 pub use line_control::LineControl;
 pub use line_control::LineControlPort;
 

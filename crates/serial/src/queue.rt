@@ -1,6 +1,7 @@
 // A queue of bytes in a ring: `len` bytes from the place `head` on, past the ring's end at its start again.
 ghost use Prim.Native.Nat.{_<_, _≤_};
 ghost use Rattle.serial.specs.Sizes.{capacity};
+
 mod methods;
 
 pub const PLACES: usize = 2048;

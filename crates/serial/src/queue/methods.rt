@@ -5,9 +5,9 @@ ghost use Prim.Native.Nat.{_+_, _<_, _≤_};
 ghost use lib.ListN.{length};
 ghost use Rattle.serial.specs.Queues.{held, Put, Got, Run, Wrapped};
 ghost use Rattle.serial.specs.Sizes.{capacity};
-use bytes::fill_at;
 use crate::queue::PLACES;
 use crate::queue::Queue;
+use bytes::fill_at;
 
 // The place in the ring of the place `n` in two rounds of it.
 fn wrap(n: usize) -> usize
@@ -21,7 +21,11 @@ impl Queue {
     pub fn new() -> Queue
         ensures { λ r. ⌜ held r ≡ [] ⌝ }
     {
-        Queue { bytes: [0; PLACES], head: 0, len: 0 }
+        Queue {
+            bytes: [0; PLACES],
+            head: 0,
+            len: 0,
+        }
     }
 
     pub fn len(&self) -> usize

@@ -10,7 +10,11 @@ impl Serial {
     pub fn new() -> Serial
         ensures { λ r. ⌜ serial r ≡ idle ⌝ }
     {
-        Serial { input: Queue::new(), output: Queue::new(), clear: true }
+        Serial {
+            input: Queue::new(),
+            output: Queue::new(),
+            clear: true,
+        }
     }
 }
 
