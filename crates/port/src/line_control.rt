@@ -25,7 +25,7 @@ pub impl<P: Port> Port for LineControl<P> as LineControlPort {
     }
 
     fn depart(&mut self, buffer: &mut [u8]) -> usize {
-        let (_, clear) = self.below.room();
+        let (_, clear) = self.room();
         if clear { self.below.depart(buffer) } else { 0 }
     }
 

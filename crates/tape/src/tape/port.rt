@@ -1,5 +1,7 @@
-// A tape as a port: nothing arrives but the recording, and neither departing nor hanging up gives a written place back.
+// A tape as a port: nothing arrives but the recording, and no place is written twice.
+// Where a port may let its rooms rise, the tape promises more: its calls keep the room to write, so no written place is given back.
 ghost use mathlib.Core.Path.{_≡_};
+ghost use Rattle.port.specs.Port.{Departed, Fetched, HungUp};
 ghost use Rattle.std.specs.Vec.{made};
 ghost use Rattle.std.specs.Of.Vec.{vec-items};
 ghost use Rattle.tape.specs.Tapes.{tape, blank};
@@ -34,14 +36,20 @@ pub impl Port for Tape as TapePort {
         0
     }
 
-    fn depart(&mut self, buffer: &mut [u8]) -> usize {
+    fn depart(&mut self, buffer: &mut [u8]) -> usize
+        ensures does { λ k. ⌜ Departed (tape (now (self .entry))) (tape (now (self .exit))) (now (buffer .entry)) (now (buffer .exit)) k ⌝ }
+        ensures places { λ _. ⌜ tape (now (self .exit)) .room-out ≡ tape (now (self .entry)) .room-out ⌝ }
+    {
         let (sent, filled) = (self.sent, self.filled);
         let k = fill_from(buffer, &self.out, sent, filled);
         self.sent = sent + k;
         k
     }
 
-    fn read(&mut self, buffer: &mut [u8]) -> (usize, usize) {
+    fn read(&mut self, buffer: &mut [u8]) -> (usize, usize)
+        ensures does { λ r. ⌜ Fetched (tape (now (self .entry))) (tape (now (self .exit))) (now (buffer .entry)) (now (buffer .exit)) (r .0) (r .1) ⌝ }
+        ensures places { λ _. ⌜ tape (now (self .exit)) .room-out ≡ tape (now (self .entry)) .room-out ⌝ }
+    {
         let played = self.played;
         let end = self.recording.len();
         let k = fill_from(buffer, &self.recording, played, end);
@@ -64,7 +72,10 @@ pub impl Port for Tape as TapePort {
         self.clear = value;
     }
 
-    fn hangup(&mut self) {
+    fn hangup(&mut self)
+        ensures does { λ _. ⌜ HungUp (tape (now (self .entry))) (tape (now (self .exit))) ⌝ }
+        ensures places { λ _. ⌜ tape (now (self .exit)) .room-out ≡ tape (now (self .entry)) .room-out ⌝ }
+    {
         self.played = self.recording.len();
         self.sent = self.filled;
     }
