@@ -1,0 +1,4 @@
+pub mod Cutting
+pub mod Fitting
+pub mod InOrder
+pub mod Kept
