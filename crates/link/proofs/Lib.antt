@@ -2,3 +2,4 @@ pub mod Cutting
 pub mod Fitting
 pub mod InOrder
 pub mod Kept
+mod Pumping

@@ -1,10 +1,10 @@
 -- What the values of the code mean, and what pump and message answer.
 use mathlib.Core.Path.{_≡_}
 use mathlib.Core.Bool.{Bool, cond}
-use mathlib.Core.List.{List, [], _∷_}
+use mathlib.Core.List.{List, [], _∷_, _++_}
 use Prim.Native.Nat.{ℕ, _≤_}
 use lib.Dec.{leb}
-use lib.ListN.{length, take}
+use lib.ListN.{length, take, drop}
 use Rattle.std.specs.declared.option.Option.{Option}
 use Rattle.std.specs.declared.option.Option.the-variants.{Some, None}
 use Rattle.std.specs.declared.result.Result.{Result}
@@ -15,7 +15,7 @@ use Rattle.line.specs.Meanings.{told, number-of, message-of}
 use Rattle.line.specs.declared.fault.Fault.{Fault}
 use Rattle.line.specs.declared.message.Message.{Message}
 use Rattle.port.specs.Port.{Meaning}
-use Rattle.reader.specs.Cutting.{Part}
+use Rattle.reader.specs.Cutting.{Part, bare}
 use Rattle.reader.specs.Unfinished.{part-of}
 use Rattle.link.specs.Lines.{as-answer, read-part}
 use Rattle.link.specs.Calls.{fault, event, notice, stray, Call, quiet, dry, handed, History}
@@ -45,10 +45,10 @@ read-told Event l = as-answer l
 read-told Notice l = as-answer l
 read-told Stray l = as-answer l
 
--- the line that is held in part is told as the kind
-pub record Told-as (p : Part) (k : Kind) : Type 0 where
-  pub kind : kind-of k ≡ kind-for (read-part p)
-  pub read : read-told k (p .kept) ≡ read-part p
+-- the line, of which so much is held, is told as the kind
+pub record Told-as (kept : List ℕ) (over : Bool) (k : Kind) : Type 0 where
+  pub kind : kind-of k ≡ kind-for (read-part (record { kept = kept; over = over }))
+  pub read : read-told k kept ≡ read-part (record { kept = kept; over = over })
 
 -- the entry of a pump in a history, by its answer and the buffer as it is afterwards
 abbrev pub entry : Result Pumped Fault → List ℕ → Call
@@ -62,6 +62,17 @@ abbrev pub Pumps : State → List ℕ → Result Pumped Fault → State → List
 Pumps s old (Err f) t new = Refuses s old t new × (number-of f ≡ 11)
 Pumps s old (Ok Dry) t new = Dries s t × (new ≡ old) × (1024 ≤ length old)
 Pumps s old (Ok (Line k n)) t new = Hands s (kind-of k) (take n new) (read-told k (take n new)) t × Stands old new (take n new) n
+
+-- a line that has ended was held as p and is handed out
+pub record Handed (p q : Part) (old new : List ℕ) (k : Kind) (n : ℕ) : Type 0 where
+  pub told : Told-as (p .kept) (p .over) k
+  pub count : n ≡ length (p .kept)
+  pub buffer : new ≡ p .kept ++ drop n old
+  pub bared : q ≡ bare
+
+abbrev pub Handed-out : Part → Part → List ℕ → List ℕ → Pumped → Type 0
+Handed-out p q old new Dry = ⊥
+Handed-out p q old new (Line k n) = Handed p q old new k n
 
 -- ---- what stays true of a link as long as it lives
 -- every history that leads to s, with one entry more, leads to t and keeps the promises

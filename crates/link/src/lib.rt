@@ -6,3 +6,4 @@ mod pumped;
 pub use link::Link;
 pub use pumped::Kind;
 pub use pumped::Pumped;
+pub use pumped::message;
