@@ -6,9 +6,4 @@ use Rattle.serial.proofs.queue.Queue.get.Needs as need
 
 pub returns : need.returns
 unfolding held
-returns c = record {
-  count = search (needs, length-ring);
-  buffer = search (needs, ring-got, places);
-  holds = search (needs, ring-rest);
-  shrunk = search (needs, length-ring);
-}
+returns c = search (needs, length-ring, ring-got, ring-rest, places)

@@ -9,6 +9,6 @@ returns c =
     let all : c .put-run-first .result + c .put-run .result ≡ c .min-k .result = search needs in
     record {
       count = search needs;
-      holds = two-runs _ _ _ _ _ _ _ all (c .put-run-first .ensures .holds) (c .put-run .ensures .holds);
+      holds = two-runs _ _ _ _ _ _ _ (c .put-run .ensures .holds) (c .put-run-first .ensures .holds) all;
       grown = search needs;
     }
