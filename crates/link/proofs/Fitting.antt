@@ -10,8 +10,8 @@ use Rattle.std.proofs.shelf.Tests.{eqb-true, leb-true, eqb-false}
 use Rattle.std.specs.declared.option.Option.{Option}
 use Rattle.std.specs.declared.option.Option.the-variants.{Some, None}
 use Rattle.escape.specs.Tokens.{tokens, first-broken, parts}
-use Rattle.line.specs.Forms.{answer, Address, two-digits, address-of, mark-of, is-mark, is-first-field}
-use Rattle.line.specs.Lines.{Message, Read, meant, faulty, Parts, fields-of, body-place, mark-place, check-place, first-invisible, parted, unless-at, or-fault, checked, body-read, parts-read}
+use Rattle.line.specs.Forms.{answer, Address, address-of, mark-of, is-mark, is-first-field}
+use Rattle.line.specs.Lines.{Message, Read, meant, faulty, Parts, fields-of, body-place, mark-place, check-place, first-invisible, parted, unless-at, or-fault, unless-number, check-fault, body-read, parts-read}
 use Rattle.reader.specs.Cutting.{Part}
 use Rattle.link.specs.Lines.{as-answer, read-part}
 use Rattle.link.specs.Calls.{Kind, notice, stray}
@@ -35,9 +35,9 @@ marked-cond : (v : Bool) (r q : Read) → Marked r → Marked q → Marked (cond
 marked-cond true r q f g = f
 marked-cond false r q f g = g
 
-marked-check : (line : List ℕ) (place : ℕ) (c : Option (List ℕ)) (r : Read) → Marked r → Marked (checked line place c r)
-marked-check line place None r f = f
-marked-check line place (Some c) r f = marked-or (two-digits c) 7 place _ (λ said e. marked-cond (eqb said _) r (faulty 8 place) f tt)
+marked-number : (o : Option ℕ) (p : ℕ) (r : Read) → Marked r → Marked (unless-number o p r)
+marked-number None p r f = f
+marked-number (Some n) p r f = tt
 
 some-is : {X : Type 0} (x y : X) → _≡_ {A = Option X} (Some x) (Some y) → x ≡ y
 some-is x y e = cc
@@ -54,11 +54,11 @@ is-marked (b ∷ x ∷ s) m e = let z : _≡_ {A = ℕ} 0 1 = cc in absurd (omeg
 marked-body : (a : Address) (m : ℕ) (p : Parts) → is-mark answer m ≡ true → Marked (body-read answer a m p)
 marked-body a m p is = marked-or (fields-of (p .body)) 9 (body-place p) _ (λ f e. marked-cond (is-first-field answer (f .0)) _ (faulty 10 (body-place p)) is tt)
 
-marked-parts : (line : List ℕ) (p : Parts) → Marked (parts-read answer line p)
-marked-parts line p =
+marked-parts : (p : Parts) (summed : List ℕ) → Marked (parts-read answer p summed)
+marked-parts p summed =
     marked-or (address-of answer (p .address)) 5 0 _ (λ a e.
     marked-or (mark-of answer (p .mark)) 6 (mark-place p) _ (λ m is.
-    marked-check line (check-place p) (p .check) (body-read answer a m p) (marked-body a m p (is-marked (p .mark) m is))))
+    marked-number (check-fault summed (p .check)) (check-place p) (body-read answer a m p) (marked-body a m p (is-marked (p .mark) m is))))
 
 marked : (line : List ℕ) → Marked (as-answer line)
 unfolding as-answer
@@ -66,7 +66,7 @@ marked line =
     marked-cond (leb (length line) 1024) _ (faulty 1 1024)
     (marked-unless (first-invisible line) 2 _
     (marked-unless (first-broken (tokens line)) 3 _
-    (marked-or (parted answer (parts 47 line)) 4 (length line) (parts-read answer line) (λ p e. marked-parts line p))))
+    (marked-or (parted answer (parts 47 line)) 4 (length line) _ (λ p e. marked-parts p _))))
     tt
 
 -- ---- kinds
