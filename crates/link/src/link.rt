@@ -10,6 +10,7 @@ use port::Port;
 use reader::Unfinished;
 use reader::next_line;
 
+#[derive(Drop)]
 pub struct Link<P> {
     port: P,
     core: Core,
