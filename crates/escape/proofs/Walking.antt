@@ -83,7 +83,7 @@ parts-here c b ts is = go (eqb b c) (eq-eqb b c is)
     go true p = refl
     go false p = let z : _≡_ {A = ℕ} 0 1 = cc in absurd (omega arith)
 
-ahead-none : (c : ℕ) (ts : List Token) → parts-of c ts ≡ ahead [] (parts-of c ts)
+pub ahead-none : (c : ℕ) (ts : List Token) → parts-of c ts ≡ ahead [] (parts-of c ts)
 ahead-none c [] = refl
 ahead-none c (plain b ∷ ts) = go (eqb b c)
   where
