@@ -79,7 +79,7 @@ is-short : (b x : ℕ) → letter-for b ≡ Some x → Shortened b x
 is-short b x = go (eqb b 58) refl (eqb b 47) refl (eqb b 92) refl (eqb b 10) refl (eqb b 13) refl (eqb b 9) refl
   where
     go : (p : Bool) → eqb b 58 ≡ p → (q : Bool) → eqb b 47 ≡ q → (r : Bool) → eqb b 92 ≡ r → (u : Bool) → eqb b 10 ≡ u → (v : Bool) → eqb b 13 ≡ v → (w : Bool) → eqb b 9 ≡ w →
-      cond p (Some 58) (cond q (Some 47) (cond r (Some 92) (cond u (Some 110) (cond v (Some 114) (cond w (Some 116) None))))) ≡ Some x → Shortened b x
+        cond p (Some 58) (cond q (Some 47) (cond r (Some 92) (cond u (Some 110) (cond v (Some 114) (cond w (Some 116) None))))) ≡ Some x → Shortened b x
     go true p q0 q r0 r u0 u v0 v w0 w e = shortened b x 58 58 p e refl (omega arith) (omega arith)
     go false p true q r0 r u0 u v0 v w0 w e = shortened b x 47 47 q e refl (omega arith) (omega arith)
     go false p false q true r u0 u v0 v w0 w e = shortened b x 92 92 r e refl (omega arith) (omega arith)

@@ -27,9 +27,20 @@ pub fn first_of(s: &[u8]) -> Front<'_>
 {
     match s {
         [] => Front::Over,
-        [b'\\', b'd', a @ b'0'..=b'9', b @ b'0'..=b'9', c @ b'0'..=b'9', rest @ ..] => {
+        [
+            b'\\',
+            b'd',
+            a @ b'0'..=b'9',
+            b @ b'0'..=b'9',
+            c @ b'0'..=b'9',
+            rest @ ..,
+        ] => {
             let n = (*a - b'0') as u16 * 100 + (*b - b'0') as u16 * 10 + (*c - b'0') as u16;
-            if n <= 255 { Front::Escape(n as u8, rest) } else { Front::Broken }
+            if n <= 255 {
+                Front::Escape(n as u8, rest)
+            } else {
+                Front::Broken
+            }
         }
         [b'\\', x @ (b':' | b'/' | b'\\'), rest @ ..] => Front::Escape(*x, rest),
         [b'\\', b'n', rest @ ..] => Front::Escape(10, rest),

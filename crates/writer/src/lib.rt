@@ -4,5 +4,4 @@ ghost use Rattle.writer.specs.Laws.{Reads-back};
 // The canonical line of every message that can be sent means just that message.
 pub fn canonical_reads_back()
     ensures { λ _. ⌜ Reads-back ⌝ }
-{
-}
+{}
