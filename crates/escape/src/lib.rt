@@ -3,15 +3,13 @@ ghost use mathlib.Core.Path.{_≡_};
 ghost use Rattle.escape.specs.Tokens.{short, numbered, tokens, parts, first-broken};
 ghost use Rattle.escape.specs.Fronts.{opened, halved, Joins};
 
-<<<<<<< HEAD
+// The largest byte that an escape can name by its number.
+const BYTE_MAX: u16 = 255;
+
 mod resolving;
 
 pub use resolving::resolve;
 pub use resolving::resolved_len;
-=======
-// The largest byte that an escape can name by its number.
-const BYTE_MAX: u16 = 255;
->>>>>>> main
 
 // What stands at the front of some bytes, and the bytes after it.
 #[derive(Clone, Copy)]
@@ -60,27 +58,6 @@ pub fn first_of(s: &[u8]) -> Front<'_>
 {
     match s {
         [] => Front::Over,
-<<<<<<< HEAD
-        [
-            b'\\',
-            b'd',
-            a @ b'0'..=b'9',
-            b @ b'0'..=b'9',
-            c @ b'0'..=b'9',
-            rest @ ..,
-        ] => {
-            let n = (*a - b'0') as u16 * 100 + (*b - b'0') as u16 * 10 + (*c - b'0') as u16;
-            if n <= 255 {
-                Front::Escape(n as u8, rest)
-            } else {
-                Front::Broken
-            }
-        }
-        [b'\\', x @ (b':' | b'/' | b'\\'), rest @ ..] => Front::Escape(*x, rest),
-        [b'\\', b'n', rest @ ..] => Front::Escape(10, rest),
-        [b'\\', b'r', rest @ ..] => Front::Escape(13, rest),
-        [b'\\', b't', rest @ ..] => Front::Escape(9, rest),
-=======
         [b'\\', b'd', x, y, z, rest @ ..] => match by_number(*x, *y, *z) {
             Some(b) => Front::Escape(b, rest),
             None => Front::Broken,
@@ -89,7 +66,6 @@ pub fn first_of(s: &[u8]) -> Front<'_>
             Some(b) => Front::Escape(b, rest),
             None => Front::Broken,
         },
->>>>>>> main
         [b'\\', ..] => Front::Broken,
         [b, rest @ ..] => Front::Plain(*b, rest),
     }
