@@ -15,7 +15,6 @@ use Rattle.std.specs.declared.option.Option.the-variants.{Some, None}
 use Rattle.escape.specs.Tokens.{Token, plain, escape, broken, tokens, short, numbered, three-digits, digit, further, first-broken, ahead, parts-of, parts, resolved, bytes-meant}
 use Rattle.escape.specs.Spelling.{letter-for, in-digits, spelled-with, spelled, spelling}
 use Rattle.escape.proofs.Opening.{tokens-plain}
-use Rattle.escape.proofs.Opening.{in-digits as numbered-is}
 use Rattle.escape.proofs.ByTokens.{Escapes, by-letter, by-number, tokens-escape}
 use Rattle.escape.proofs.Walking.{parts-other, parts-here, ahead-twice, ahead-none}
 
@@ -87,6 +86,10 @@ is-short b x = go (eqb b 58) refl (eqb b 47) refl (eqb b 92) refl (eqb b 10) ref
     go false p false q false r false u true v w0 w e = shortened b x 13 114 v e refl (omega arith) (omega arith)
     go false p false q false r false u false v true w e = shortened b x 9 116 w e refl (omega arith) (omega arith)
     go false p false q false r false u false v false w e = let z : _≡_ {A = ℕ} 0 1 = cc in absurd (omega arith)
+
+-- three digits of a byte's number
+pub numbered-is : (x y z : ℕ) → 48 ≤ x → x ≤ 57 → 48 ≤ y → y ≤ 57 → 48 ≤ z → z ≤ 57 → three-digits x y z ≤ 255 → numbered x y z ≡ Some (three-digits x y z)
+numbered-is x y z a b c d e f g = rw (le-leb 48 x a, le-leb x 57 b, le-leb 48 y c, le-leb y 57 d, le-leb 48 z e, le-leb z 57 f, le-leb (three-digits x y z) 255 g)
 
 by-three : (b : ℕ) → b < 256 → Spelt b (in-digits b)
 by-three b h =
