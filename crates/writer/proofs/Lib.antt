@@ -1,3 +1,4 @@
 pub mod Addresses
 pub mod Backs
 pub mod Growing
+pub mod Opening
