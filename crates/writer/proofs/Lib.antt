@@ -2,3 +2,5 @@ pub mod Addresses
 pub mod Backs
 pub mod Growing
 pub mod Opening
+pub mod Shorter
+pub mod Again

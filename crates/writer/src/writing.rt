@@ -34,7 +34,13 @@ impl<'a> Writer<'a> {
     }
 
     // Begins the line of a message with its first field alone; one that is open already is given up.
-    pub fn begin(&mut self, side: Side, address: &[u8], mark: char, first: &[u8]) -> Result<(), Fault>
+    pub fn begin(
+        &mut self,
+        side: Side,
+        address: &[u8],
+        mark: char,
+        first: &[u8],
+    ) -> Result<(), Fault>
         ensures answer { λ r. ⌜ refusal r ≡ begin-fault (side-of side) (now (address .entry)) mark (now (first .entry)) (length (now (now (self .entry) .out))) ⌝ }
         ensures state { λ r. ⌜ elim r [ Ok _ ↦ Opened (now (now (self .entry) .out)) (begun (side-of side) (now (address .entry)) mark (now (first .entry))) (now (now (self .exit) .out)) (now (self .exit) .len) | Err f ↦ now (self .exit) ≡ now (self .entry) ] ⌝ }
         ensures lender { λ _. ⌜ name (now (self .exit) .out) ≡ name (now (self .entry) .out) ⌝ }
@@ -130,7 +136,15 @@ impl<'a> Writer<'a> {
             b'\r' => self.push_all(b"\\r"),
             b'\t' => self.push_all(b"\\t"),
             b' '..=b'~' => self.push(b),
-            _ => self.push_all(&[b'\\', b'd', b'0' + b / 100, b'0' + b / 10 % 10, b'0' + b % 10]),
+            _ => self.push_all(
+                &[
+                    b'\\',
+                    b'd',
+                    b'0' + b / 100,
+                    b'0' + b / 10 % 10,
+                    b'0' + b % 10,
+                ],
+            ),
         }
     }
 

@@ -13,14 +13,14 @@ returns-then-buffer-lt1024 g c =
 pub returns-then-not-next-line : need.returns-then-not-next-line
 returns-then-not-next-line g c =
     let d = dries (state (g .P·Port .meaning (c .args .self .now .port)) (c .args .self .now .core))
-      (state (g .P·Port .meaning (c .next-line .last .port)) (record { number = c .args .self .now .core .number; unfinished = c .next-line .last .unfinished }))
-      (c .args .buffer .now) (c .if-not-next-line .ensures tt) refl (c .if-buffer-lt1024 .left) in
+    (state (g .P·Port .meaning (c .next-line .last .port)) (record { number = c .args .self .now .core .number; unfinished = c .next-line .last .unfinished }))
+    (c .args .buffer .now) (c .if-not-next-line .ensures tt) refl (c .if-buffer-lt1024 .left) in
     record { pumps = d .0; refused = tt; life = d .1 }
 
 pub returns : need.returns
 returns g c =
     let d = hands-out (state (g .P·Port .meaning (c .args .self .now .port)) (c .args .self .now .core))
-      (state (g .P·Port .meaning (c .next-line .last .port)) (c .hand-out .last .self))
-      (part-of (c .next-line .last .unfinished)) (c .args .buffer .now) (c .hand-out .last .buffer)
-      (c .if-not-next-line .ensures tt) (c .hand-out .ensures .number) (c .if-buffer-lt1024 .left) (c .hand-out .result) (c .hand-out .ensures .line) in
+    (state (g .P·Port .meaning (c .next-line .last .port)) (c .hand-out .last .self))
+    (part-of (c .next-line .last .unfinished)) (c .args .buffer .now) (c .hand-out .last .buffer)
+    (c .if-not-next-line .ensures tt) (c .hand-out .ensures .number) (c .if-buffer-lt1024 .left) (c .hand-out .result) (c .hand-out .ensures .line) in
     record { pumps = d .0; refused = tt; life = d .1 }
