@@ -1,3 +1,5 @@
 pub mod Opening
 pub mod ByTokens
 pub mod Walking
+pub mod Chunks
+pub mod Fronting

@@ -6,6 +6,11 @@ ghost use Rattle.escape.specs.Fronts.{opened, halved, Joins};
 // The largest byte that an escape can name by its number.
 const BYTE_MAX: u16 = 255;
 
+mod resolving;
+
+pub use resolving::resolve;
+pub use resolving::resolved_len;
+
 // What stands at the front of some bytes, and the bytes after it.
 #[derive(Clone, Copy)]
 pub enum Front<'a> {
