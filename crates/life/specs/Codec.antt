@@ -7,7 +7,7 @@ use lib.ListN.{length, take}
 use Rattle.std.specs.declared.option.Option.{Option}
 use Rattle.line.specs.Forms.{Address}
 use Rattle.line.specs.Lines.{Message, Read, meant, faulty}
-use Rattle.life.specs.Cutting.{is-end, Part}
+use Rattle.reader.specs.Cutting.{is-end, Part}
 
 pub record Codec : Type 0 where
   -- what one line, without its end, is read as: by the link as an answer, by the player as a command

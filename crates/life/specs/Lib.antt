@@ -1,6 +1,4 @@
 -- A link's whole life, to be read in this order.
-pub mod Stream
-pub mod Cutting
 pub mod Codec
 pub mod Calls
 pub mod Answers

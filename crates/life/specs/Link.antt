@@ -9,8 +9,9 @@ use lib.ListN.{length, take}
 use Rattle.port.specs.Port.{Meaning, Arrived, Departed, Written, Cleared, HungUp}
 use Rattle.line.specs.Forms.{Address}
 use Rattle.line.specs.Lines.{Message, Read, meant, faulty}
-use Rattle.life.specs.Stream.{dry-at, cut-off, first-cut}
-use Rattle.life.specs.Cutting.{Part, bare, by-parts}
+use Rattle.reader.specs.Stream.{dry-at, cut-off, first-cut}
+use Rattle.reader.specs.Cutting.{Part, bare, by-parts}
+use Rattle.reader.specs.Unfinished.{Reads-only}
 use Rattle.life.specs.Codec.{Codec, read-part}
 use Rattle.life.specs.Answers.{Place, start, not-next, final, onward, next}
 use Rattle.life.specs.Calls.{Kind, fault, event, notice, stray, misplaced, more, last, late, late-last, Outcome, answered, given-up, lost, foreign, Line, Call, quiet, submitted, dry, handed, settled, reset, arrived, departed, emitted, History}
@@ -119,14 +120,6 @@ pub record Port-only (s t : State) : Type 0 where
   pub unfinished : t .unfinished ≡ s .unfinished
   pub slots : Same (s .slots) (t .slots)
   pub recent : t .recent ≡ s .recent
-
--- of the port only In is changed; a room may rise
-pub record Reads-only (before after : Meaning) : Type 0 where
-  pub outgoing : after .outgoing ≡ before .outgoing
-  pub room-in : before .room-in ≤ after .room-in
-  pub room-out : before .room-out ≤ after .room-out
-  pub heeds : after .heeds ≡ before .heeds
-  pub clear : after .clear ≡ before .clear
 
 -- the line of a command as it is written, with its end
 abbrev pub ended-line : Codec → Message → List ℕ

@@ -7,7 +7,7 @@ use lib.Dec.{eqb}
 use lib.ListN.{length, getD}
 use Rattle.port.specs.Port.{Meaning}
 use Rattle.line.specs.Lines.{Message, Read, meant, faulty}
-use Rattle.life.specs.Cutting.{is-end, lines-read}
+use Rattle.reader.specs.Cutting.{is-end, lines-read}
 use Rattle.life.specs.Codec.{Codec}
 use Rattle.life.specs.Answers.{Whole-answer}
 use Rattle.life.specs.Calls.{Line, event-line, empty-line, answer-line, quiet, submitted, dry, handed, settled, reset, arrived, departed, emitted, History, bytes-in, bytes-out, lines, since, Begins}

@@ -7,7 +7,7 @@ use lib.Dec.{eqb}
 use lib.ListN.{length, getD, take}
 use Rattle.port.specs.Port.{Meaning}
 use Rattle.line.specs.Lines.{Message, Read, meant, faulty}
-use Rattle.life.specs.Cutting.{lines-read}
+use Rattle.reader.specs.Cutting.{lines-read}
 use Rattle.life.specs.Codec.{Codec, as-shown}
 use Rattle.life.specs.Answers.{Whole-answer}
 use Rattle.life.specs.Calls.{Kind, fault, event, notice, stray, misplaced, more, last, late, late-last, Outcome, answered, given-up, lost, foreign, Line, event-line, empty-line, answer-line, quiet, submitted, dry, handed, settled, reset, arrived, departed, emitted, History, bytes-in, shown, accepted, outcomes, lines, messages, ever, since, before, Begins}

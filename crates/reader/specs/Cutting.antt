@@ -4,7 +4,7 @@ use mathlib.Core.List.{List, [], _∷_, _++_, map}
 use Prim.Native.Nat.{ℕ}
 use lib.Dec.{eqb, ltb}
 use lib.ListN.{length}
-use Rattle.life.specs.Stream.{Cutter, run, after}
+use Rattle.reader.specs.Stream.{Cutter, run, after}
 
 abbrev pub is-end : ℕ → Bool
 is-end b = cond (eqb b 13) true (eqb b 10)
