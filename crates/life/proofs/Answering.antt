@@ -3,13 +3,14 @@ use mathlib.Core.Path.{_≡_, refl}
 use mathlib.Core.Bool.{Bool, true}
 use mathlib.Core.List.{List, [], _∷_, _++_}
 use mathlib.Core.Logic.{_⊎_, inl, inr}
-use mathlib.Core.Option.{some}
+use Rattle.std.specs.declared.option.Option.the-variants.{Some}
 use Prim.Native.Nat.{ℕ, zero, suc, _<_}
 use native.Mathlib.Omega.{arith}
 use lib.ListN.{length}
 use Rattle.std.proofs.shelf.Tests.{cases-eq, eq-eqb, ne-eqb}
 use Rattle.line.specs.Lines.{Message, meant}
 use Rattle.life.specs.Codec.{Codec}
+use Rattle.life.specs.Kept.{No-longer}
 use Rattle.life.specs.Answers.{Results, no-more, one-more, Whole-answer, single, other-status, listing, Place, start, within, Step, final, onward, next}
 
 pub data Whole (K : Codec) (b : Bool) : Place → List (List ℕ) → Type 0 where
@@ -62,6 +63,9 @@ module _ (K : Codec) where
   whole-from (other-status l m br e bad) = rw br (at-last {p = start} l m e (rw bad))
   whole-from {c} (listing {ls} l m n br e ok ov r) = rw br (go n ov r)
     where
-      go : (n : ℕ) → K .overview m ≡ some n → Results K n 0 ls → Whole K true start (l ∷ ls)
+      go : (n : ℕ) → K .overview m ≡ Some n → Results K n 0 ls → Whole K true start (l ∷ ls)
       go zero ov r = rw (results-end 0 r refl) (at-last {p = start} l m e (rw (ok, ov)))
       go (suc n) ov r = and-more {p = start} l m (within 0 (suc n)) e (rw (ok, ov)) (results-whole (suc n) r (omega arith))
+
+pub ends-once : No-longer
+ends-once K c ls l rest w v = no-longer K (whole-from K w) l rest (whole-from K v)

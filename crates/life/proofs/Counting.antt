@@ -3,7 +3,7 @@ use mathlib.Core.Path.{_≡_, refl, sym, ap, _∙_}
 use mathlib.Core.Bool.{Bool, true, false}
 use mathlib.Core.List.{List, [], _∷_, _++_}
 use mathlib.Core.Logic.{_⊎_, inl, inr}
-use Prim.Native.Nat.{ℕ, _+_, _<_}
+use Prim.Native.Nat.{ℕ, _+_, _<_, _≤_}
 use native.Mathlib.Omega.{arith}
 use lib.Dec.{eqb}
 use lib.ListN.{length}
@@ -11,9 +11,9 @@ use Rattle.std.proofs.shelf.Lists.{length-push}
 use Rattle.std.proofs.shelf.Tests.{cases-eq, eq-eqb, ne-eqb, eqb-true}
 use Rattle.line.specs.Lines.{Read}
 use Rattle.life.specs.Codec.{Codec}
-use Rattle.life.specs.Calls.{Kind, Outcome, settled, History, ever, accepted, outcomes}
+use Rattle.life.specs.Calls.{Kind, Outcome, Call, settled, History, ever, accepted, outcomes}
 use Rattle.life.specs.Promises.{remove, times, out, late-after-line, late-after-settle, waiting-late, one-if-own, settled-own, Counted}
-use Rattle.life.specs.Link.{Pending, Slot, is-free, is-open, is-answered, is-lost, is-given-up, State, Same, Put, Held-slot, after-reset, Told, told-fault, told-event, told-notice, told-unknown, told-elsewhere, told-misplaced, told-more, told-last, told-late, told-late-last, Settles, was-answered, was-lost, was-open, not-held, Settled, Leads, making, call, emission, did-nothing, did-submit, did-dry, did-hand, did-settle, did-reset, did-arrive, did-depart}
+use Rattle.life.specs.Link.{Pending, Slot, is-free, is-open, is-answered, is-lost, is-given-up, State, Same, Put, Held-slot, after-reset, Told, told-fault, told-event, told-notice, told-unknown, told-elsewhere, told-misplaced, told-more, told-last, told-late, told-late-last, Settles, was-answered, was-lost, was-open, not-held, Settled, Does, Leads, making, call, emission, did-refuse, did-clear, did-submit, did-dry, did-hand, did-settle, did-reset, did-arrive, did-depart}
 
 -- how many tickets out hold a number, and how many commands given up
 abbrev pub held-count : Slot → ℕ
@@ -174,10 +174,21 @@ reset-late is-answered = refl
 reset-late is-lost = refl
 reset-late (is-given-up p) = refl
 
+kept-link : {K : Codec} {h : History} {s t : State} {c : Call} → Does K h s t c → t .link ≡ s .link
+kept-link (did-refuse e) = ap (λ (x : State). x .link) e
+kept-link (did-clear v r) = r .rest .link
+kept-link (did-submit n m r) = r .link
+kept-link (did-dry r) = r .link
+kept-link (did-hand k l x r) = r .link
+kept-link (did-settle u n o ok r) = r .link
+kept-link (did-reset n r) = r .link
+kept-link (did-arrive bytes k r) = r .rest .link
+kept-link (did-depart old new k r) = r .rest .link
+
 pub same-link : (K : Codec) (first : State) {h : History} {s : State} → Leads K first h s → s .link ≡ first .link
 same-link K first (making n) = refl
 same-link K first (emission l w) = same-link K first w
-same-link K first (call c t w of d) = of .link ∙ same-link K first w
+same-link K first (call c t w d) = kept-link d ∙ same-link K first w
 
 settled-tally : (K : Codec) (link : ℕ) (h : History) (s t : State) (u n : ℕ) (o : Outcome) → s .link ≡ link → (0 < times n (out link h)) ⊎ (u ≡ link → ⊥) → Settled s u n o t → Tally link h s → Tally link (settled u n o ∷ h) t
 settled-tally K link h s t u n o l ok r y = go (cases-eq u link) ok
@@ -192,16 +203,17 @@ settled-tally K link h s t u n o l ok r y = go (cases-eq u link) ok
 pub tally : (K : Codec) (first : State) {h : History} {s : State} → Leads K first h s → Tally (first .link) h s
 tally K first (making n) = record { adds = refl; held = λ i. rw (n .slots i); kept = λ i. rw (n .slots i) }
 tally K first (emission l w) = tally K first w
-tally K first (call {h} {s} c t w of (did-nothing r)) = same-tally (s .slots) (t .slots) (r .slots) (tally K first w)
-tally K first (call {h} {s} c t w of (did-submit n m r)) = rw length-push (submit-tally _ _ (out (first .link) h) (waiting-late h) (s .slots) (t .slots) n _ (r .free) (r .slots) (tally K first w))
-tally K first (call {h} {s} c t w of (did-dry r)) = same-tally (s .slots) (t .slots) (r .slots) (tally K first w)
-tally K first (call {h} {s} c t w of (did-hand k l x r)) = told-tally K (s .slots) (t .slots) (r .told) (tally K first w)
-tally K first (call {h} {s} c t w of (did-settle u n o ok r)) = let l = same-link K first w in settled-tally K (first .link) h s t u n o l (rw l at ok) r (tally K first w)
-tally K first (call {h} {s} c t w of (did-reset n r)) =
+tally K first (call {h} {s} c t w (did-refuse e)) = rw e (tally K first w)
+tally K first (call {h} {s} c t w (did-clear v r)) = same-tally (s .slots) (t .slots) (r .rest .slots) (tally K first w)
+tally K first (call {h} {s} c t w (did-submit n m r)) = rw length-push (submit-tally _ _ (out (first .link) h) (waiting-late h) (s .slots) (t .slots) n _ (r .number .free) (r .slots) (tally K first w))
+tally K first (call {h} {s} c t w (did-dry r)) = same-tally (s .slots) (t .slots) (r .slots) (tally K first w)
+tally K first (call {h} {s} c t w (did-hand k l x r)) = told-tally K (s .slots) (t .slots) (r .told) (tally K first w)
+tally K first (call {h} {s} c t w (did-settle u n o ok r)) = let l = same-link K first w in settled-tally K (first .link) h s t u n o l (rw l at ok) r (tally K first w)
+tally K first (call {h} {s} c t w (did-reset n r)) =
     let y = tally K first w in
     record { adds = y .adds; held = λ i. y .held i ∙ rw (r .slots i) (sym (reset-held (s .slots i))); kept = λ i. rw (r .slots i) (sym (reset-late (s .slots i))) }
-tally K first (call {h} {s} c t w of (did-arrive bs r)) = same-tally (s .slots) (t .slots) (r .slots) (tally K first w)
-tally K first (call {h} {s} c t w of (did-depart bs r)) = same-tally (s .slots) (t .slots) (r .slots) (tally K first w)
+tally K first (call {h} {s} c t w (did-arrive bytes k r)) = same-tally (s .slots) (t .slots) (r .rest .slots) (tally K first w)
+tally K first (call {h} {s} c t w (did-depart old new k r)) = same-tally (s .slots) (t .slots) (r .rest .slots) (tally K first w)
 
 held-one : (x : Slot) → Held-slot x → held-count x ≡ 1
 held-one is-free h = absurd h
@@ -217,6 +229,13 @@ one-held is-answered h = tt
 one-held is-lost h = tt
 one-held (is-given-up p) h = omega arith
 
+held-once : (x : Slot) → held-count x ≤ 1
+held-once is-free = omega arith
+held-once (is-open p) = omega arith
+held-once is-answered = omega arith
+held-once is-lost = omega arith
+held-once (is-given-up p) = omega arith
+
 late-none : (x : Slot) → 0 < late-count x → held-count x ≡ 0
 late-none is-free h = refl
 late-none (is-open p) h = omega arith
@@ -229,5 +248,6 @@ counted K first s h w = let y = tally K first w in record {
   adds-up = y .adds;
   held-is-out = λ n x. y .held n ∙ held-one (s .slots n) x;
   out-is-held = λ n x. one-held (s .slots n) (rw (y .held n) at x);
+  out-once = λ n. rw (y .held n) (held-once (s .slots n));
   late-is-not-out = λ n x. y .held n ∙ late-none (s .slots n) (rw (y .kept n) at x);
 }

@@ -3,6 +3,7 @@
 use mathlib.Core.Path.{_≡_, refl, sym, ap, ap₂, _∙_}
 use mathlib.Core.List.{List, [], _∷_, _++_, map, append-nil, append-assoc}
 use Prim.Native.Nat.{ℕ}
+use lib.ListN.{take}
 use Rattle.std.proofs.shelf.Lists.{map-append}
 use Rattle.reader.specs.Stream.{run, after}
 use Rattle.line.specs.Lines.{Read}
@@ -11,8 +12,9 @@ use Rattle.life.specs.Codec.{Codec, Lawful, as-shown}
 use Rattle.port.specs.Port.{Meaning}
 use Rattle.life.specs.Calls.{Kind, History, Begins, since, shown, bytes-in}
 use Rattle.life.specs.Promises.{Fits, of-fault, of-event, of-notice, of-stray, of-misplaced, of-more, of-last, of-late, of-late-last, Kinds-fit, In-order, All-at-dry}
-use Rattle.life.specs.Link.{Slot, State, Told, told-fault, told-event, told-notice, told-unknown, told-elsewhere, told-misplaced, told-more, told-last, told-late, told-late-last, Leads, making, call, emission, did-nothing, did-submit, did-dry, did-hand, did-settle, did-reset, did-arrive, did-depart}
-use Rattle.life.proofs.Cutting.{add-is, left-append, lines-append, lines-end, left-end, begins-reading, squeeze, after-squeezed, none-squeezed, first-dry, Takes, takes}
+use Rattle.life.specs.Link.{Slot, State, Told, told-fault, told-event, told-notice, told-unknown, told-elsewhere, told-misplaced, told-more, told-last, told-late, told-late-last, Leads, making, call, emission, did-refuse, did-clear, did-submit, did-dry, did-hand, did-settle, did-reset, did-arrive, did-depart}
+use Rattle.reader.proofs.Cutting.{left-append, lines-append, lines-end, left-end, squeeze, after-squeezed, none-squeezed, first-dry}
+use Rattle.life.proofs.Taking.{add-is, begins-read, Takes, takes}
 
 -- The invariant: `arrived-bytes` are those since the last reset, of which the first were `consumed`, and `told` is what was handed
 -- out since; `incoming` and `held` are the link's
@@ -75,29 +77,31 @@ module _ (K : Codec) (L : Lawful K) where
   pub order : (first : State) {h : History} {s : State} → Leads K first h s → Order K (first .port) h s
   order first (making n) = record { consumed = []; all = refl; left = sym (n .unfinished); so-far = refl }
   order first (emission l w) = let o = order first w in record { consumed = o .consumed; all = o .all; left = o .left; so-far = o .so-far }
-  order first (call c t w of (did-nothing r)) = kept (r .incoming) (r .unfinished) (order first w)
-  order first (call c t w of (did-submit n m r)) = kept (r .incoming) (r .unfinished) (order first w)
-  order first (call {h} {s} c t w of (did-dry r)) = let f = first-dry by-parts (s .unfinished) (t .unfinished) (s .port .incoming) (r .cut) in kept (r .incoming) (sym (f .1)) (dried _ (s .port .incoming) (s .unfinished) _ (f .0) (order first w) .1)
-  order first (call {h} {s} c t w of (did-hand k l x r)) = let o = order first w in let y = takes K L s t k l x r (left-from [] (o .consumed)) (o .left) in rw (y .1) (handed-on _ (s .port .incoming) l (t .port .incoming) (s .unfinished) x _ o (y .0))
-  order first (call c t w of (did-settle u n o ok r)) = kept (r .incoming) (r .unfinished) (order first w)
-  order first (call c t w of (did-reset n r)) = rw (r .incoming, r .unfinished) (record { consumed = []; all = refl; left = refl; so-far = refl })
-  order first (call {h} {s} c t w of (did-arrive bs r)) = rw (add-is (since bytes-in (first .port .incoming) h) bs, r .incoming, r .unfinished) (grown _ (s .port .incoming) bs (order first w))
-  order first (call c t w of (did-depart bs r)) = kept (r .incoming) (r .unfinished) (order first w)
+  order first (call c t w (did-refuse e)) = rw e (order first w)
+  order first (call c t w (did-clear v r)) = kept (r .port .incoming) (r .rest .unfinished) (order first w)
+  order first (call c t w (did-submit n m r)) = kept (r .port .incoming) (r .unfinished) (order first w)
+  order first (call {h} {s} c t w (did-dry r)) = let f = first-dry by-parts (s .unfinished) (t .unfinished) (s .port .incoming) (r .cut) in kept (r .incoming) (sym (f .1)) (dried _ (s .port .incoming) (s .unfinished) _ (f .0) (order first w) .1)
+  order first (call {h} {s} c t w (did-hand k l x r)) = let o = order first w in let y = takes K L s t k l x r (left-from [] (o .consumed)) (o .left) in rw (y .1) (handed-on _ (s .port .incoming) l (t .port .incoming) (s .unfinished) x _ o (y .0))
+  order first (call c t w (did-settle u n o ok r)) = kept (ap (λ (p : Meaning). p .incoming) (r .port)) (r .unfinished) (order first w)
+  order first (call c t w (did-reset n r)) = rw (r .port .incoming, r .unfinished) (record { consumed = []; all = refl; left = refl; so-far = refl })
+  order first (call {h} {s} c t w (did-arrive bytes k r)) = rw (add-is (since bytes-in (first .port .incoming) h) (take k bytes), r .port .incoming, r .rest .unfinished) (grown _ (s .port .incoming) (take k bytes) (order first w))
+  order first (call c t w (did-depart old new k r)) = kept (r .port .incoming) (r .rest .unfinished) (order first w)
 
   beginning : (a : List ℕ) (r : List (List ℕ × Read)) (i : List ℕ) (u : Part) → Read-so-far K a r i u → Begins r (lines-read (as-shown K) a)
-  beginning a r i u o = rw (o .so-far, ← (o .all)) (begins-reading (as-shown K) (o .consumed) i)
+  beginning a r i u o = rw (o .so-far, ← (o .all)) (begins-read (as-shown K) (o .consumed) i)
 
   at-dry : (first : State) {h : History} {s : State} → Leads K first h s → All-at-dry K (first .port) h
   at-dry first (making n) = tt
   at-dry first (emission l w) = tt
-  at-dry first (call c t w of (did-nothing r)) = tt
-  at-dry first (call c t w of (did-submit n m r)) = tt
-  at-dry first (call {h} {s} c t w of (did-dry r)) = dried _ (s .port .incoming) (s .unfinished) _ (first-dry by-parts (s .unfinished) (t .unfinished) (s .port .incoming) (r .cut) .0) (order first w) .0
-  at-dry first (call c t w of (did-hand k l x r)) = tt
-  at-dry first (call c t w of (did-settle u n o ok r)) = tt
-  at-dry first (call c t w of (did-reset n r)) = tt
-  at-dry first (call c t w of (did-arrive bs r)) = tt
-  at-dry first (call c t w of (did-depart bs r)) = tt
+  at-dry first (call c t w (did-refuse e)) = tt
+  at-dry first (call c t w (did-clear v r)) = tt
+  at-dry first (call c t w (did-submit n m r)) = tt
+  at-dry first (call {h} {s} c t w (did-dry r)) = dried _ (s .port .incoming) (s .unfinished) _ (first-dry by-parts (s .unfinished) (t .unfinished) (s .port .incoming) (r .cut) .0) (order first w) .0
+  at-dry first (call c t w (did-hand k l x r)) = tt
+  at-dry first (call c t w (did-settle u n o ok r)) = tt
+  at-dry first (call c t w (did-reset n r)) = tt
+  at-dry first (call c t w (did-arrive bytes k r)) = tt
+  at-dry first (call c t w (did-depart old new k r)) = tt
 
   -- ---- kinds
   fits : {b a : ℕ → Slot} {r : Read} {k : Kind} → Told K b a r k → Fits k r
@@ -115,14 +119,15 @@ module _ (K : Codec) (L : Lawful K) where
   kinds-fit : (first : State) {h : History} {s : State} → Leads K first h s → Kinds-fit h
   kinds-fit first (making n) = tt
   kinds-fit first (emission l w) = kinds-fit first w
-  kinds-fit first (call c t w of (did-nothing r)) = kinds-fit first w
-  kinds-fit first (call c t w of (did-submit n m r)) = kinds-fit first w
-  kinds-fit first (call c t w of (did-dry r)) = kinds-fit first w
-  kinds-fit first (call c t w of (did-hand k l x r)) = (fits (r .told), kinds-fit first w)
-  kinds-fit first (call c t w of (did-settle u n o ok r)) = kinds-fit first w
-  kinds-fit first (call c t w of (did-reset n r)) = kinds-fit first w
-  kinds-fit first (call c t w of (did-arrive bs r)) = kinds-fit first w
-  kinds-fit first (call c t w of (did-depart bs r)) = kinds-fit first w
+  kinds-fit first (call c t w (did-refuse e)) = kinds-fit first w
+  kinds-fit first (call c t w (did-clear v r)) = kinds-fit first w
+  kinds-fit first (call c t w (did-submit n m r)) = kinds-fit first w
+  kinds-fit first (call c t w (did-dry r)) = kinds-fit first w
+  kinds-fit first (call c t w (did-hand k l x r)) = (fits (r .told), kinds-fit first w)
+  kinds-fit first (call c t w (did-settle u n o ok r)) = kinds-fit first w
+  kinds-fit first (call c t w (did-reset n r)) = kinds-fit first w
+  kinds-fit first (call c t w (did-arrive bytes k r)) = kinds-fit first w
+  kinds-fit first (call c t w (did-depart old new k r)) = kinds-fit first w
 
   pub in-order : (first s : State) (h : History) → Leads K first h s → In-order K (first .port) h
   in-order first s h w = record { beginning = beginning _ _ (s .port .incoming) (s .unfinished) (order first w); at-dry = at-dry first w; kinds = kinds-fit first w }

@@ -2,9 +2,8 @@
 use mathlib.Core.List.{_∷_}
 use Rattle.life.specs.Codec.{Codec, Lawful}
 use Rattle.life.specs.Calls.{Call, History}
-use Rattle.life.specs.Promises.{Promises}
-use Rattle.life.specs.Link.{State, Held-slot, Of-one, Does, Leads, call}
-use Rattle.life.specs.Kept.{Kept}
+use Rattle.life.specs.Link.{State, Does, Leads, call}
+use Rattle.life.specs.Kept.{Promised, Kept}
 use Rattle.life.proofs.InOrder.{in-order}
 use Rattle.life.proofs.Counting.{counted}
 use Rattle.life.proofs.Matching.{matched}
@@ -13,6 +12,6 @@ pub kept : Kept
 kept K L first s h w = record { in-order = in-order K L first s h w; counted = counted K first s h w; matched = matched K L first s h w }
 
 -- what a call's contract says of every history
-pub lives-on : (K : Codec) → Lawful K → (first : State) (h : History) (s t : State) (c : Call) → Leads K first h s → Of-one s t → Does K h s t c
-    → Leads K first (c ∷ h) t × Promises K (first .link) (first .port) (λ n. Held-slot (t .slots n)) (c ∷ h)
-lives-on K L first h s t c w o d = let v = call c t w o d in (v, kept K L first t (c ∷ h) v)
+pub lives-on : (K : Codec) → Lawful K → (first : State) (h : History) (s t : State) (c : Call) → Leads K first h s → Does K h s t c
+    → Leads K first (c ∷ h) t × Promised K first (c ∷ h) t
+lives-on K L first h s t c w d = let v = call c t w d in (v, kept K L first t (c ∷ h) v)

@@ -3,22 +3,27 @@ use mathlib.Core.Path.{_≡_, refl, sym, ap, subst, subst₂, _∙_}
 use mathlib.Core.Bool.{Bool, true, false, cond}
 use mathlib.Core.List.{List, [], _∷_, _++_, map, append-nil, append-assoc}
 use mathlib.Core.Logic.{_⊎_, inl, inr}
-use Prim.Native.Nat.{ℕ, _+_, _<_, _≤_}
+use Prim.Native.Nat.{ℕ, _+_, _%_, _<_, _≤_}
 use native.Mathlib.Omega.{arith}
 use lib.Dec.{eqb}
 use lib.ListN.{length, getD, take}
 use Rattle.std.proofs.shelf.Lists.{length-append, length-map, length-push, map-append, getD-map, getD-append-left, getD-push, take-append-le, take-all, take-at, take-more}
 use Rattle.std.proofs.shelf.Tests.{cases-eq, cases-lt, eq-eqb, ne-eqb, eqb-true}
+use Rattle.std.specs.declared.option.Option.the-variants.{None}
+use Rattle.line.specs.Forms.{command as to-player}
 use Rattle.line.specs.Lines.{Message, Read, meant, faulty}
 use Rattle.reader.specs.Cutting.{lines-from, left-from, lines-read, Part}
 use Rattle.life.specs.Codec.{Codec, Lawful, as-shown}
-use Rattle.port.specs.Port.{Meaning}
+use Rattle.port.specs.Port.{Meaning, Departed}
+use Rattle.port.specs.Runs.{begun as no-call, depart}
+use Rattle.port.proofs.Runs.{kept-in-order}
 use Rattle.life.specs.Answers.{Whole-answer}
 use Rattle.life.specs.Calls.{Kind, event, Outcome, Line, event-line, empty-line, answer-line, quiet, submitted, dry, handed, settled, reset, arrived, departed, emitted, History, Begins, add-to, ever, since, before, messages, accepted, lines, shown, bytes-in, bytes-out}
 use Rattle.life.specs.Player.{line-bytes, all-bytes, answer-to, commands-read, May-emit, may-empty, may-event, may-answer, Honest}
 use Rattle.life.specs.Promises.{last-got, goes-to, lines-of, with-line, emitted-for, not-empty, emitted-since, count-shown, told-so-far, next-emitted, Right, right-event, right-answer, Handed-right, Matched}
-use Rattle.life.specs.Link.{Pending, Slot, is-free, is-open, is-given-up, State, Same, Put, Waits, when-open, when-given-up, begun, Submits, Hands, Settles, was-answered, was-lost, was-open, not-held, Settled, Leads, making, call, emission, did-nothing, did-submit, did-dry, did-hand, did-settle, did-reset, did-arrive, did-depart}
-use Rattle.life.proofs.Cutting.{add-is, left-append, lines-append, lines-one, left-one, lines-end-more, begins-reading, Takes, takes}
+use Rattle.life.specs.Link.{Pending, Slot, is-free, is-open, is-given-up, State, Same, Put, Waits, when-open, when-given-up, First-free, begun, ended-line, Submits, Hands, Settles, was-answered, was-lost, was-open, not-held, Settled, Leads, making, call, emission, did-refuse, did-clear, did-submit, did-dry, did-hand, did-settle, did-reset, did-arrive, did-depart}
+use Rattle.reader.proofs.Cutting.{left-append, lines-append}
+use Rattle.life.proofs.Taking.{add-is, lines-one, left-one, lines-end-more, begins-read, Takes, takes}
 use Rattle.life.proofs.InOrder.{Read-so-far, Order, order}
 use Rattle.life.proofs.Answering.{whole-from, no-longer}
 use Rattle.life.proofs.Emitted.{text, all-bytes-push, not-empty-append, answer-append, answer-not-empty, answer-same, answer-other, begins-answer, answer-none, at-place}
@@ -26,7 +31,7 @@ use Rattle.life.proofs.NextLine.{Waiting, Waiting-or-whole, To, to-more, to-la
 
 -- no command, where a list of commands has none
 abbrev pub no-message : Message
-no-message = record { address = []; mark = 0; fields = [] }
+no-message = record { side = to-player; address = record { device = []; zone = None }; mark = 0; fields = [] }
 
 -- bytes departed and still outgoing are the commands accepted, in order
 pub record Sent (K : Codec) (outs outgoing : List ℕ) (ms : List Message) : Type 0 where
@@ -38,7 +43,7 @@ pub data Allowed (K : Codec) (got : List Read) (pre : List Line) : Line → Type
   allowed-event : (l : List ℕ) (e : ℕ) (m : Message) → K .as-answer l ≡ meant m → m .mark ≡ 33 → Allowed K got pre (event-line l e)
   allowed-answer : (n : ℕ) (l : List ℕ) (e : ℕ) (m command : Message) (to-come : List (List ℕ))
       → n < length got → getD got n (faulty 0 0) ≡ meant command
-      → K .as-answer l ≡ meant m → m .address ≡ command .address → m .mark ≡ command .mark
+      → K .as-answer l ≡ meant m → K .same-address (m .address) (command .address) ≡ true → m .mark ≡ command .mark
       → Whole-answer K command (answer-to n pre ++ (l ∷ to-come)) → Allowed K got pre (answer-line n l e)
 
 abbrev pub All-allowed : Codec → List Read → List Line → Type 0
@@ -101,10 +106,17 @@ last-one n k i (arrived bs ∷ h) e f = last-one n k i h e f
 last-one n k i (departed bs ∷ h) e f = last-one n k i h e f
 last-one n k i (emitted l ∷ h) e f = last-one n k i h e f
 
+-- what departed, and what is still outgoing
+departed-all : (m z : Meaning) (old new : List ℕ) (k : ℕ) → Departed m z old new k → take k new ++ z .outgoing ≡ m .outgoing
+departed-all m z old new k d = kept-in-order m z _ (depart no-call d) .outgoing ∙ append-nil (m .outgoing)
+
+given-small : (b : ℕ → Slot) (r n : ℕ) → First-free b r n → n < 10
+given-small b r n f = let e = f .there in omega arith
+
 module _ (K : Codec) (L : Lawful K) where
   -- ---- the commands that the player has, and those accepted
   got-begins : (outs outgoing : List ℕ) (ms : List Message) → Sent K outs outgoing ms → Begins (lines-read (K .as-command) outs) (map meant ms)
-  got-begins outs outgoing ms o = rw (← (o .read)) (begins-reading (K .as-command) outs outgoing)
+  got-begins outs outgoing ms o = rw (← (o .read)) (begins-read (K .as-command) outs outgoing)
 
   got-is : (outs outgoing : List ℕ) (ms : List Message) → Sent K outs outgoing ms → (n : ℕ) (command : Message) → n < length (lines-read (K .as-command) outs)
       → getD (lines-read (K .as-command) outs) n (faulty 0 0) ≡ meant command → (n < length ms) × (getD ms n no-message ≡ command)
@@ -344,7 +356,7 @@ module _ (K : Codec) (L : Lawful K) where
     step-event e m is rd mk = (
       rw (told .0, stands m rd) (right-event line e),
       rw (told .0, length-push (since shown [] h) (l, r))
-          (hand _ (since bytes-out [] h) (s .port .outgoing) _ (since lines [] h) (count-shown h) (before h) _ (λ k. lines-of k h) (λ k. emitted-for k h) (owners h) (s .slots) (t .port .outgoing) (λ k. lines-of k h) (t .slots) (hd .outgoing) lt
+          (hand _ (since bytes-out [] h) (s .port .outgoing) _ (since lines [] h) (count-shown h) (before h) _ (λ k. lines-of k h) (λ k. emitted-for k h) (owners h) (s .slots) (t .port .outgoing) (λ k. lines-of k h) (t .slots) (hd .port .outgoing) lt
           (λ n. o .shared .given-is n ∙ sym (still n)) (o .shared .own)
           (λ n few. rw (still n) (keep-commands (before h) (count-shown h) (since messages [] h) (emitted-since h) (owners h) (s .slots) (t .slots) (same-keeps (s .slots) (t .slots) (told .1)) (o .commands) n few)) o),
     )
@@ -410,7 +422,7 @@ module _ (K : Codec) (L : Lawful K) where
       step-answer got = (
         rw same-l (right-answer kind n line e c got goes-here (handed-it .tells) (handed-it .told)),
         rw (length-push (since shown [] h) (l, r))
-            (hand _ (since bytes-out [] h) (s .port .outgoing) _ (since lines [] h) (count-shown h) (before h) _ (λ k. lines-of k h) (λ k. emitted-for k h) (owners h) (s .slots) (t .port .outgoing) (λ k. lines-of k (handed kind l r ∷ h)) (t .slots) (hd .outgoing) lt
+            (hand _ (since bytes-out [] h) (s .port .outgoing) _ (since lines [] h) (count-shown h) (before h) _ (λ k. lines-of k h) (λ k. emitted-for k h) (owners h) (s .slots) (t .port .outgoing) (λ k. lines-of k (handed kind l r ∷ h)) (t .slots) (hd .port .outgoing) lt
             now-is now-own now-commands o),
       )
 
@@ -448,7 +460,7 @@ module _ (K : Codec) (L : Lawful K) where
 
   submit-step : (h : History) (s t : State) (n : ℕ) (m : Message) → Submits K s n m t → Match-of K h s → Match-of K (submitted n m ∷ h) t
   submit-step h s t n m r o = record {
-    sent = rw (r .outgoing) (sent-more (since bytes-out [] h) (s .port .outgoing) (since messages [] h) m (r .can-go) (o .sent));
+    sent = rw (r .port .outgoing, take-all (length (ended-line K m)) (ended-line K m) (omega arith)) (sent-more (since bytes-out [] h) (s .port .outgoing) (since messages [] h) m (r .sendable) (o .sent));
     emits = o .emits;
     total-is = let e = o .total-is in let f = length-push (ever accepted h) n in let g = length-push (since messages [] h) m in omega arith;
     shared = record {
@@ -458,7 +470,7 @@ module _ (K : Codec) (L : Lawful K) where
       done-is = o .shared .done-is;
       own = o .shared .own;
     };
-    commands = submit-commands (before h) (count-shown h) (since messages [] h) (emitted-since h) (owners h) (s .slots) (t .slots) n (length (ever accepted h)) m (o .total-is) (r .small) (r .mark) (r .free) (r .slots)
+    commands = submit-commands (before h) (count-shown h) (since messages [] h) (emitted-since h) (owners h) (s .slots) (t .slots) n (length (ever accepted h)) m (o .total-is) (given-small (s .slots) (s .recent) n (r .number)) (r .mark) (r .number .free) (r .slots)
         (o .shared .fresh (length (since messages [] h)) (omega arith)) (o .commands);
   }
 
@@ -505,7 +517,7 @@ module _ (K : Codec) (L : Lawful K) where
       regroup = ap (λ (z : List ℕ). z ++ t .port .outgoing) (add-is (since bytes-out [] h) bs) ∙ append-assoc (since bytes-out [] h) bs (t .port .outgoing) ∙ ap (λ (z : List ℕ). since bytes-out [] h ++ z) took
 
       more-got : Begins (commands-read K h) (lines-read (K .as-command) (since bytes-out [] h ++ bs))
-      more-got = begins-reading (K .as-command) (since bytes-out [] h) bs
+      more-got = begins-read (K .as-command) (since bytes-out [] h) bs
 
   -- ---- every history
   pub record Matching (first : Meaning) (h : History) (s : State) : Type 0 where
@@ -547,18 +559,19 @@ module _ (K : Codec) (L : Lawful K) where
     right = tt;
   }
   matching first (emission {h} {s} l w) hon = let o = matching first w (hon .1) in record { empty-then = o .empty-then; core = emission-step h s l (hon .0) (o .core); right = o .right }
-  matching first (call {h} {s} c t w of (did-nothing r)) hon = let o = matching first w hon in record { empty-then = o .empty-then; core = keep _ _ (s .port .outgoing) _ (since lines [] h) _ _ _ _ _ _ (s .slots) (t .port .outgoing) (t .slots) (r .outgoing) (same-keeps (s .slots) (t .slots) (r .slots)) (o .core); right = o .right }
-  matching first (call {h} {s} c t w of (did-submit n m r)) hon = let o = matching first w hon in record { empty-then = o .empty-then; core = submit-step h s t n m r (o .core); right = o .right }
-  matching first (call {h} {s} c t w of (did-dry r)) hon = let o = matching first w hon in record { empty-then = o .empty-then; core = keep _ _ (s .port .outgoing) _ (since lines [] h) _ _ _ _ _ _ (s .slots) (t .port .outgoing) (t .slots) (r .outgoing) (same-keeps (s .slots) (t .slots) (r .slots)) (o .core); right = o .right }
-  matching first (call {h} {s} c t w of (did-hand k l x r)) hon = hand-step (first .port) h s t k l x r (order K L first w) (matching first w hon)
-  matching first (call {h} {s} c t w of (did-settle u n x ok r)) hon = let o = matching first w hon in record { empty-then = o .empty-then; core = keep _ _ (s .port .outgoing) _ (since lines [] h) _ _ _ _ _ _ (s .slots) (t .port .outgoing) (t .slots) (r .outgoing) (settled-keeps (cases-eq u (s .link)) r) (o .core); right = o .right }
+  matching first (call {h} {s} c t w (did-refuse e)) hon = let o = matching first w hon in record { empty-then = o .empty-then; core = rw e (o .core); right = o .right }
+  matching first (call {h} {s} c t w (did-clear v r)) hon = let o = matching first w hon in record { empty-then = o .empty-then; core = keep _ _ (s .port .outgoing) _ (since lines [] h) _ _ _ _ _ _ (s .slots) (t .port .outgoing) (t .slots) (r .port .outgoing) (same-keeps (s .slots) (t .slots) (r .rest .slots)) (o .core); right = o .right }
+  matching first (call {h} {s} c t w (did-submit n m r)) hon = let o = matching first w hon in record { empty-then = o .empty-then; core = submit-step h s t n m r (o .core); right = o .right }
+  matching first (call {h} {s} c t w (did-dry r)) hon = let o = matching first w hon in record { empty-then = o .empty-then; core = keep _ _ (s .port .outgoing) _ (since lines [] h) _ _ _ _ _ _ (s .slots) (t .port .outgoing) (t .slots) (r .port .outgoing) (same-keeps (s .slots) (t .slots) (r .slots)) (o .core); right = o .right }
+  matching first (call {h} {s} c t w (did-hand k l x r)) hon = hand-step (first .port) h s t k l x r (order K L first w) (matching first w hon)
+  matching first (call {h} {s} c t w (did-settle u n x ok r)) hon = let o = matching first w hon in record { empty-then = o .empty-then; core = keep _ _ (s .port .outgoing) _ (since lines [] h) _ _ _ _ _ _ (s .slots) (t .port .outgoing) (t .slots) (ap (λ (p : Meaning). p .outgoing) (r .port)) (settled-keeps (cases-eq u (s .link)) r) (o .core); right = o .right }
     where
       settled-keeps : (u ≡ s .link) ⊎ (u ≡ s .link → ⊥) → Settled s u n x t → (y : ℕ) (p : Pending) → Waits (s .slots y) p → Waits (t .slots y) p
       settled-keeps (inl e) r = settle-keeps (s .slots) (t .slots) n (r .here e)
       settled-keeps (inr ne) r = same-keeps (s .slots) (t .slots) (r .elsewhere ne .1)
-  matching first (call {h} {s} c t w of (did-reset n r)) hon = let o = matching first w hon in record { empty-then = o .empty-then; core = reset-step h s t n (r .outgoing) (o .core); right = o .right }
-  matching first (call {h} {s} c t w of (did-arrive bs r)) hon = let o = matching first w (hon .1) in record { empty-then = o .empty-then; core = arrive-step h s t bs (r .outgoing) (r .slots) (hon .0) (o .core); right = o .right }
-  matching first (call {h} {s} c t w of (did-depart bs r)) hon = let o = matching first w hon in record { empty-then = o .empty-then; core = depart-step h s t bs (r .outgoing) (r .slots) (o .core); right = o .right }
+  matching first (call {h} {s} c t w (did-reset n r)) hon = let o = matching first w hon in record { empty-then = o .empty-then; core = reset-step h s t n (r .port .outgoing) (o .core); right = o .right }
+  matching first (call {h} {s} c t w (did-arrive bytes k r)) hon = let o = matching first w (hon .1) in record { empty-then = o .empty-then; core = arrive-step h s t (take k bytes) (r .port .outgoing) (r .rest .slots) (hon .0) (o .core); right = o .right }
+  matching first (call {h} {s} c t w (did-depart old new k r)) hon = let o = matching first w hon in record { empty-then = o .empty-then; core = depart-step h s t (take k new) (departed-all (s .port) (t .port) old new k (r .port)) (r .rest .slots) (o .core); right = o .right }
 
   pub matched : (first s : State) (h : History) → Leads K first h s → Honest K (first .port) h → Matched K h
   matched first s h w hon = let o = matching first w hon in record { received = got-begins (since bytes-out [] h) (s .port .outgoing) (since messages [] h) (o .core .sent); to-its-ticket = o .right; own-lines = o .core .shared .own }

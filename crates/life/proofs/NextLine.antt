@@ -127,11 +127,11 @@ module _ (K : Codec) where
           go more-lines (inr c) = let g = c .1 in let s : c .0 ≡ q = cc in rw s at (c .2)
 
       -- what is told with it
-      pub hand-on : (kind : Kind) → Waiting K b owner k command ls → m .address ≡ command .address → m .mark ≡ command .mark → Told K b a (meant m) kind → Handed-on K b a owner k command ls l kind
+      pub hand-on : (kind : Kind) → Waiting K b owner k command ls → K .same-address (m .address) (command .address) ≡ true → m .mark ≡ command .mark → Told K b a (meant m) kind → Handed-on K b a owner k command ls l kind
       hand-on kind al ad mk (told-event m e s) = let f = al .here .mark in absurd (omega arith)
       hand-on kind al ad mk (told-notice m e s) = let f = al .here .mark in let g = al .here .small in absurd (omega arith)
       hand-on kind al ad mk (told-unknown m n e lt idle s) = let f = al .here .mark in let same : al .number ≡ n = omega arith in absurd (waits-idle (rw same at (al .here .waits)) idle)
-      hand-on kind al ad mk (told-elsewhere m n p e lt w ne s) = let c = at-number (al .number) (al .pending) n p (al .here) (sym mk ∙ e) w in absurd (ne (ad ∙ sym (c .address)))
+      hand-on kind al ad mk (told-elsewhere m n p e lt w ne s) = let c = at-number (al .number) (al .pending) n p (al .here) (sym mk ∙ e) w in false-true (sym ne ∙ rw (c .address) ad)
       hand-on kind al ad mk (told-misplaced m n p e lt w same-ad nx s) = absurd (go (coming n p l rest m (at-number (al .number) (al .pending) n p (al .here) (sym mk ∙ e) w) reads whole))
         where
           go : Comes K (p .browse) (p .place) m rest → ⊥
