@@ -1,3 +1,4 @@
 pub mod Opening
 pub mod ByTokens
 pub mod Walking
+pub mod Chunks

@@ -83,7 +83,7 @@ parts-here c b ts is = go (eqb b c) (eq-eqb b c is)
     go true p = refl
     go false p = let z : _≡_ {A = ℕ} 0 1 = cc in absurd (omega arith)
 
-ahead-none : (c : ℕ) (ts : List Token) → parts-of c ts ≡ ahead [] (parts-of c ts)
+pub ahead-none : (c : ℕ) (ts : List Token) → parts-of c ts ≡ ahead [] (parts-of c ts)
 ahead-none c [] = refl
 ahead-none c (plain b ∷ ts) = go (eqb b c)
   where
@@ -111,13 +111,21 @@ passed-all c s rest ts e one w =
     ap (λ (x : List ℕ). x ∷ []) (w .1 ∙ ap (λ (x : List ℕ). w .0 ++ x) (sym r))
     ∙ sym (w .2 ∙ ap (λ (us : List Token). ahead (w .0) (parts-of c us)) (sym e) ∙ ap (ahead (w .0)) one)
 
+-- what was passed stands before the rest
+passed-front : (c : ℕ) (s rest : List ℕ) (w : Passed c s rest) → take (length s - length rest - 0) s ≡ w .0
+passed-front c s rest w =
+    let n : length s - length rest - 0 ≡ length (w .0) = omega (arith, front-of (w .0) rest s (w .1)) in
+    ap (λ (k : ℕ). take k s) n ∙ ap (take (length (w .0))) (w .1) ∙ take-at (w .0) rest (length (w .0)) refl
+
 pub passed-here : (c b : ℕ) (s rest more : List ℕ) → plain b ∷ tokens more ≡ tokens rest → b ≡ c → Passed c s rest → take (length s - length rest - 0) s ∷ parts c more ≡ parts c s
 passed-here c b s rest more e is w =
-    let n : length s - length rest - 0 ≡ length (w .0) = omega (arith, front-of (w .0) rest s (w .1)) in
-    let front : take (length s - length rest - 0) s ≡ w .0 ++ [] =
-        ap (λ (k : ℕ). take k s) n ∙ ap (take (length (w .0))) (w .1) ∙ take-at (w .0) rest (length (w .0)) refl ∙ sym (append-nil (w .0)) in
-    ap (λ (x : List ℕ). x ∷ parts c more) front
+    ap (λ (x : List ℕ). x ∷ parts c more) (passed-front c s rest w ∙ sym (append-nil (w .0)))
     ∙ sym (w .2 ∙ ap (λ (ts : List Token). ahead (w .0) (parts-of c ts)) (sym e) ∙ ap (ahead (w .0)) (parts-here c b (tokens more) is))
+
+pub passed-joins : (c b : ℕ) (s rest more : List ℕ) → plain b ∷ tokens more ≡ tokens rest → b ≡ c → Passed c s rest → s ≡ take (length s - length rest - 0) s ++ (c ∷ more)
+passed-joins c b s rest more e is w =
+    w .1 ∙ ap (λ (x : List ℕ). w .0 ++ x) (front-text rest more (plain b) e ∙ ap (λ (x : ℕ). x ∷ more) is)
+    ∙ ap (λ (x : List ℕ). x ++ (c ∷ more)) (sym (passed-front c s rest w))
 
 pub within : (c : ℕ) (s rest : List ℕ) → Passed c s rest → length rest ≤ length s
 within c s rest w = omega (arith, ap length (w .1), length-append (w .0) rest)

@@ -1,5 +1,6 @@
 -- What the code takes off the front of some bytes, by their tokens.
-use mathlib.Core.List.{List, [], _∷_}
+use mathlib.Core.Path.{_≡_}
+use mathlib.Core.List.{List, [], _∷_, _++_}
 use Prim.Native.Nat.{ℕ, _-_}
 use lib.ListN.{length, take, drop}
 use denote.Ref.{RefT}
@@ -20,3 +21,8 @@ opened s (Escape b rest) = escape (take (length s - length (rest .now) - 1) (dro
 abbrev pub halved : ℕ → List ℕ → Option (RefT (List ℕ) × RefT (List ℕ)) → List (List ℕ)
 halved c s None = s ∷ []
 halved c s (Some halves) = halves .0 .now ∷ parts c (halves .1 .now)
+
+-- the two halves, and the byte `c` between them, are the whole
+abbrev pub Joins : ℕ → List ℕ → Option (RefT (List ℕ) × RefT (List ℕ)) → Type 0
+Joins c s None = Unit {0}
+Joins c s (Some halves) = s ≡ halves .0 .now ++ (c ∷ halves .1 .now)

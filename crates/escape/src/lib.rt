@@ -1,7 +1,7 @@
 // The escapes of a line: which bytes stand inside one, and what they mean.
 ghost use mathlib.Core.Path.{_≡_};
 ghost use Rattle.escape.specs.Tokens.{tokens, parts, first-broken};
-ghost use Rattle.escape.specs.Fronts.{opened, halved};
+ghost use Rattle.escape.specs.Fronts.{opened, halved, Joins};
 
 // What stands at the front of some bytes, and the bytes after it.
 #[derive(Clone, Copy)]
@@ -52,7 +52,8 @@ pub fn broken_at(s: &[u8]) -> Option<usize>
 
 // What stands before and after the first byte `at` outside an escape.
 pub fn cut(s: &[u8], at: u8) -> Option<(&[u8], &[u8])>
-    ensures { λ r. ⌜ halved at (now (s .entry)) r ≡ parts at (now (s .entry)) ⌝ }
+    ensures parts { λ r. ⌜ halved at (now (s .entry)) r ≡ parts at (now (s .entry)) ⌝ }
+    ensures joins { λ r. ⌜ Joins at (now (s .entry)) r ⌝ }
 {
     let mut rest = s;
     loop {

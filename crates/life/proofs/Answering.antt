@@ -1,4 +1,4 @@
--- A whole answer, by what it is, is one as the link goes through it, from a place on.
+-- Whole answers, as the rules describe them, against the link's steps from line to line.
 use mathlib.Core.Path.{_≡_, refl}
 use mathlib.Core.Bool.{Bool, true}
 use mathlib.Core.List.{List, [], _∷_, _++_}
@@ -17,7 +17,7 @@ pub data Whole (K : Codec) (b : Bool) : Place → List (List ℕ) → Type 0 whe
   at-last : {p : Place} (l : List ℕ) (m : Message) → K .as-answer l ≡ meant m → next K b p m ≡ final → Whole K b p (l ∷ [])
   and-more : {p : Place} {ls : List (List ℕ)} (l : List ℕ) (m : Message) (q : Place) → K .as-answer l ≡ meant m → next K b p m ≡ onward q → Whole K b q ls → Whole K b p (l ∷ ls)
 
--- what its first line is
+-- the first line of what is left of an answer: it is the final one, or leads to another place
 abbrev pub Comes : Codec → Bool → Place → Message → List (List ℕ) → Type 0
 Comes K b p m rest = ((next K b p m ≡ final) × (rest ≡ [])) ⊎ ((q : Place) × (next K b p m ≡ onward q) × Whole K b q rest)
 
@@ -57,7 +57,7 @@ module _ (K : Codec) where
       go ih (inl e) = rw (results-end n r e) (at-last {p = within i n} l m a (rw (b, c, eq-eqb (suc i) (suc i) refl, eq-eqb (suc i) n e)))
       go ih (inr ne) = and-more {p = within i n} l m (within (suc i) n) a (rw (b, c, eq-eqb (suc i) (suc i) refl, ne-eqb (suc i) n ne)) (ih (omega arith))
 
-  -- a whole answer, by what it is, is one as the link goes through it
+  -- each whole answer is one that the steps lead through from its start
   pub whole-from : {c : Message} {ls : List (List ℕ)} → Whole-answer K c ls → Whole K (K .is-browse c) start ls
   whole-from (single l m br e) = rw br (at-last {p = start} l m e refl)
   whole-from (other-status l m br e bad) = rw br (at-last {p = start} l m e (rw bad))

@@ -1,4 +1,4 @@
--- Tickets and numbers: what each number's slot says of the tickets out and of the commands given up.
+-- The second promise. For each number, how it stands tells how many tickets out have it, and how many commands given up.
 use mathlib.Core.Path.{_≡_, refl, sym, ap, _∙_}
 use mathlib.Core.Bool.{Bool, true, false}
 use mathlib.Core.List.{List, [], _∷_, _++_}
@@ -15,7 +15,7 @@ use Rattle.life.specs.Calls.{Kind, Outcome, Call, settled, History, ever, acce
 use Rattle.life.specs.Promises.{remove, times, out, late-after-line, late-after-settle, waiting-late, one-if-own, settled-own, Counted}
 use Rattle.life.specs.Link.{Pending, Slot, is-free, is-open, is-answered, is-lost, is-given-up, State, Same, Put, Held-slot, after-reset, Told, told-fault, told-event, told-notice, told-unknown, told-elsewhere, told-misplaced, told-more, told-last, told-late, told-late-last, Settles, was-answered, was-lost, was-open, not-held, Settled, Does, Leads, making, call, emission, did-refuse, did-clear, did-submit, did-dry, did-hand, did-settle, did-reset, did-arrive, did-depart}
 
--- how many tickets out hold a number, and how many commands given up
+-- the tickets out that have a number, by how it stands; and the commands given up that have it
 abbrev pub held-count : Slot → ℕ
 held-count is-free = 0
 held-count (is-open p) = 1
@@ -30,7 +30,7 @@ late-count is-answered = 0
 late-count is-lost = 0
 late-count (is-given-up p) = 1
 
--- ---- lists of numbers
+-- ---- counting in lists of numbers
 times-same : (n : ℕ) (xs : List ℕ) → times n (n ∷ xs) ≡ times n xs + 1
 times-same n xs = rw (eq-eqb n n refl)
 
@@ -76,7 +76,7 @@ pub record Tallied (given settled-so : ℕ) (outs lates : List ℕ) (b : ℕ →
 abbrev pub Tally : ℕ → History → State → Type 0
 Tally link h s = Tallied (length (ever accepted h)) (settled-own (ever outcomes h)) (out link h) (waiting-late h) (s .slots)
 
--- a count that agrees, after one number has changed
+-- counts by how the numbers stand, where one number has changed
 put-count : (f : Slot → ℕ) (b a : ℕ → Slot) (n : ℕ) (x : Slot) (xs ys : List ℕ) → Put b n x a → ((i : ℕ) → times i xs ≡ f (b i))
     → times n ys ≡ f x → ((i : ℕ) → (i ≡ n → ⊥) → times i ys ≡ times i xs) → (i : ℕ) → times i ys ≡ f (a i)
 put-count f b a n x xs ys p was here other i = go (cases-eq i n)
@@ -91,7 +91,7 @@ same-count f b a xs e was i = rw (e i) (was i)
 same-tally : {g sp : ℕ} {os ls : List ℕ} (b a : ℕ → Slot) → Same b a → Tallied g sp os ls b → Tallied g sp os ls a
 same-tally {g} {sp} {os} {ls} b a e t = record { adds = t .adds; held = same-count held-count b a os e (t .held); kept = same-count late-count b a ls e (t .kept) }
 
--- the number keeps what holds it
+-- one number has changed, but not who has it
 step-tally : {g sp : ℕ} {os ls : List ℕ} (b a : ℕ → Slot) (n : ℕ) (x : Slot) → Put b n x a → held-count (b n) ≡ held-count x → late-count (b n) ≡ late-count x → Tallied g sp os ls b → Tallied g sp os ls a
 step-tally {g} {sp} {os} {ls} b a n x p e f t = record {
   adds = t .adds;

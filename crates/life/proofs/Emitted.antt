@@ -1,4 +1,4 @@
--- Lists of the lines that a player emits: their bytes, and the answers in them.
+-- The lines that the player emits: their bytes in a row, and the lines in answer to one command among them.
 use mathlib.Core.Path.{_≡_, refl, sym, ap, _∙_}
 use mathlib.Core.Bool.{Bool, true, false}
 use mathlib.Core.List.{List, [], _∷_, _++_, map, append-nil, append-assoc}
@@ -59,7 +59,7 @@ nil-left (x ∷ xs) ys e = let z : _≡_ {A = ℕ} 0 1 = cc in absurd (omega ari
 pub answer-none : (n j : ℕ) (ls : List Line) → answer-to n ls ≡ [] → answer-to n (take j ls) ≡ []
 answer-none n j ls e = let b = begins-answer n j ls in nil-left (answer-to n (take j ls)) (b .0) (b .1 ∙ e)
 
--- the line that comes after those cut off so far
+-- where `cut` are the first lines of a stream, and `line` is the one after them, that is the line emitted at this place
 pub at-place : (es : List Line) (cut rest : List (List ℕ)) (line : List ℕ) (j : ℕ) → (cut ++ (line ∷ [])) ++ rest ≡ map text es → length cut ≡ j → (j < length es) × (text (getD es j (empty-line 13)) ≡ line)
 at-place es cut rest line j e is = (lt, sym (getD-map text es j (empty-line 13) [] lt) ∙ sym (ap (λ (z : List (List ℕ)). getD z j []) e) ∙ rw append-assoc (getD-at cut line rest [] j is))
   where

@@ -1,5 +1,5 @@
--- In order: what pump showed is a beginning of the lines that arrived, at a dry pump all of them, and each
--- of a kind that fits.
+-- The first promise. The bytes arrived since the last reset are those that pump has taken and those that still wait; what it has
+-- handed out is the reading of the first.
 use mathlib.Core.Path.{_≡_, refl, sym, ap, ap₂, _∙_}
 use mathlib.Core.List.{List, [], _∷_, _++_, map, append-nil, append-assoc}
 use Prim.Native.Nat.{ℕ}
@@ -16,8 +16,8 @@ use Rattle.life.specs.Link.{Slot, State, Told, told-fault, told-event, told-no
 use Rattle.reader.proofs.Cutting.{left-append, lines-append, lines-end, left-end, squeeze, after-squeezed, none-squeezed, first-dry}
 use Rattle.life.proofs.Taking.{add-is, begins-read, Takes, takes}
 
--- The invariant: `arrived-bytes` are those since the last reset, of which the first were `consumed`, and `told` is what was handed
--- out since; `incoming` and `held` are the link's
+-- The invariant, since the last reset: `told` was handed out, pump has taken the bytes `consumed`, and `incoming` wait. `held` is the
+-- unfinished line as the link holds it.
 pub record Read-so-far (K : Codec) (arrived-bytes : List ℕ) (told : List (List ℕ × Read)) (incoming : List ℕ) (held : Part) : Type 0 where
   pub consumed : List ℕ
   pub all : consumed ++ incoming ≡ arrived-bytes
@@ -103,7 +103,7 @@ module _ (K : Codec) (L : Lawful K) where
   at-dry first (call c t w (did-arrive bytes k r)) = tt
   at-dry first (call c t w (did-depart old new k r)) = tt
 
-  -- ---- kinds
+  -- ---- what was told fits what was read
   fits : {b a : ℕ → Slot} {r : Read} {k : Kind} → Told K b a r k → Fits k r
   fits (told-fault n p s) = of-fault n p
   fits (told-event m e s) = of-event m e

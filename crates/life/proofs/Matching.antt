@@ -1,4 +1,4 @@
--- Answers and their tickets, where the player is honest: what holds since the last reset, kept by every step.
+-- The third promise, by an invariant on all that happened since the last reset.
 use mathlib.Core.Path.{_≡_, refl, sym, ap, subst, subst₂, _∙_}
 use mathlib.Core.Bool.{Bool, true, false, cond}
 use mathlib.Core.List.{List, [], _∷_, _++_, map, append-nil, append-assoc}
@@ -29,16 +29,16 @@ use Rattle.life.proofs.Answering.{whole-from, no-longer}
 use Rattle.life.proofs.Emitted.{text, all-bytes-push, not-empty-append, answer-append, answer-not-empty, answer-same, answer-other, begins-answer, answer-none, at-place}
 use Rattle.life.proofs.NextLine.{Waiting, Waiting-or-whole, To, to-more, to-last, to-late, to-late-last, Handed-on, waits-one, waits-idle, event-told, hand-on}
 
--- no command, where a list of commands has none
+-- what a list of messages is read as beyond its end
 abbrev pub no-message : Message
 no-message = record { side = to-player; address = record { device = []; zone = None }; mark = 0; fields = [] }
 
--- bytes departed and still outgoing are the commands accepted, in order
+-- the bytes departed and those still outgoing are just the lines of the messages accepted
 pub record Sent (K : Codec) (outs outgoing : List ℕ) (ms : List Message) : Type 0 where
   pub read : lines-read (K .as-command) (outs ++ outgoing) ≡ map meant ms
   pub ended : left-from [] (outs ++ outgoing) ≡ []
 
--- what was emitted, after pre, was the player's to emit where it had the commands `got`
+-- a player that has received `got` and emitted `pre` may emit this line, empty lines aside
 pub data Allowed (K : Codec) (got : List Read) (pre : List Line) : Line → Type 0 where
   allowed-event : (l : List ℕ) (e : ℕ) (m : Message) → K .as-answer l ≡ meant m → m .mark ≡ 33 → Allowed K got pre (event-line l e)
   allowed-answer : (n : ℕ) (l : List ℕ) (e : ℕ) (m command : Message) (to-come : List (List ℕ))
@@ -49,14 +49,15 @@ pub data Allowed (K : Codec) (got : List Read) (pre : List Line) : Line → Type
 abbrev pub All-allowed : Codec → List Read → List Line → Type 0
 All-allowed K got es = (j : ℕ) → j < length es → Allowed K got (take j es) (getD es j (empty-line 13))
 
--- bytes arrived are a beginning of those emitted, which are whole lines
+-- all that was emitted are whole lines, each one that the player might emit; bytes arrived are a beginning of their bytes
 pub record Emits (K : Codec) (outs ins : List ℕ) (ls : List Line) : Type 0 where
   pub begins : Begins ins (all-bytes ls)
   pub cut : lines-from [] (all-bytes ls) ≡ map text (not-empty ls)
   pub ended : left-from [] (all-bytes ls) ≡ []
   pub allowed : All-allowed K (lines-read (K .as-command) outs) (not-empty ls)
 
--- the lines of each ticket: `given` to it, and `done` for it by the player; of the lines es, j were handed out
+-- The lines of each ticket, where es were emitted since the last reset and j of them were handed out: `given k` were handed to the kth
+-- ticket, and `done k` emitted in answer to its command.
 pub record Shared (base j count : ℕ) (es : List Line) (given done : ℕ → List (List ℕ)) : Type 0 where
   pub few : j ≤ length es
   pub fresh : (n : ℕ) → count ≤ n → answer-to n es ≡ []
@@ -64,13 +65,13 @@ pub record Shared (base j count : ℕ) (es : List Line) (given done : ℕ → Li
   pub done-is : (n : ℕ) → done (base + n) ≡ answer-to n es
   pub own : (k : ℕ) → Begins (given k) (done k)
 
--- each command whose answer is not whole still holds its number
+-- each command since the last reset either has its number still, open or given up, or was answered to the end
 abbrev pub Commands : Codec → ℕ → ℕ → List Message → List Line → (ℕ → ℕ → Bool) → (ℕ → Slot) → Type 0
 Commands K base j ms es owner b = (n : ℕ) → n < length ms
     → Waiting-or-whole K b owner (base + n) (getD ms n no-message) (answer-to n (take j es))
 
--- The invariant. Since the last reset: the messages ms were accepted, the bytes outs departed and ins arrived, the lines ls were
--- emitted and j handed out. `base` submits were accepted before that reset and `total` ever; `owner n k` where the kth ticket last got n
+-- The invariant. `base` submits were accepted before the last reset, and since then the messages ms, so `total` in all. The bytes outs
+-- departed, ins arrived; the lines ls were emitted and j lines handed out. `owner n k` says that the kth ticket last got the number n.
 pub record Match (K : Codec) (ms : List Message) (outs outgoing ins : List ℕ) (ls : List Line) (j base total : ℕ) (given done : ℕ → List (List ℕ)) (owner : ℕ → ℕ → Bool) (b : ℕ → Slot) : Type 0 where
   pub sent : Sent K outs outgoing ms
   pub emits : Emits K outs ins ls
@@ -78,18 +79,18 @@ pub record Match (K : Codec) (ms : List Message) (outs outgoing ins : List ℕ) 
   pub shared : Shared base j (length ms) (not-empty ls) given done
   pub commands : Commands K base j ms (not-empty ls) owner b
 
--- who got each number last, and the lines told with the next
+-- which ticket last got a number, and the lines handed out with the next one
 abbrev pub owners : History → ℕ → ℕ → Bool
 owners h n k = last-got n k h
 
 abbrev pub told-with-next : History → List Line
 told-with-next h = take (count-shown h + 1) (emitted-since h)
 
--- the invariant, of a history and the state that it leads to
+-- the same of a history and of the state that it leads to
 abbrev pub Match-of : Codec → History → State → Type 0
 Match-of K h s = Match K (since messages [] h) (since bytes-out [] h) (s .port .outgoing) (since bytes-in [] h) (since lines [] h) (count-shown h) (before h) (length (ever accepted h)) (λ k. lines-of k h) (λ k. emitted-for k h) (owners h) (s .slots)
 
--- ---- who got a number last
+-- ---- one ticket last got a number
 pub last-one : (n k i : ℕ) (h : History) → last-got n k h ≡ true → last-got n i h ≡ true → k ≡ i
 last-one n k i [] e f = let z : _≡_ {A = ℕ} 0 1 = cc in omega arith
 last-one n k i (quiet ∷ h) e f = last-one n k i h e f
@@ -106,7 +107,7 @@ last-one n k i (arrived bs ∷ h) e f = last-one n k i h e f
 last-one n k i (departed bs ∷ h) e f = last-one n k i h e f
 last-one n k i (emitted l ∷ h) e f = last-one n k i h e f
 
--- what departed, and what is still outgoing
+-- what departed, followed by what is still outgoing, was outgoing
 departed-all : (m z : Meaning) (old new : List ℕ) (k : ℕ) → Departed m z old new k → take k new ++ z .outgoing ≡ m .outgoing
 departed-all m z old new k d = kept-in-order m z _ (depart no-call d) .outgoing ∙ append-nil (m .outgoing)
 
@@ -114,7 +115,7 @@ given-small : (b : ℕ → Slot) (r n : ℕ) → First-free b r n → n < 10
 given-small b r n f = let e = f .there in omega arith
 
 module _ (K : Codec) (L : Lawful K) where
-  -- ---- the commands that the player has, and those accepted
+  -- ---- what the player has received, against what was submitted
   got-begins : (outs outgoing : List ℕ) (ms : List Message) → Sent K outs outgoing ms → Begins (lines-read (K .as-command) outs) (map meant ms)
   got-begins outs outgoing ms o = rw (← (o .read)) (begins-read (K .as-command) outs outgoing)
 
@@ -137,7 +138,7 @@ module _ (K : Codec) (L : Lawful K) where
       same : getD ms n no-message ≡ command
       same = let z = at in cc
 
-  -- more came to the player
+  -- the player has received more
   allowed-more : (got rest : List Read) (es : List Line) → All-allowed K got es → All-allowed K (got ++ rest) es
   allowed-more got rest es f j lt = go (f j lt)
     where
@@ -145,7 +146,7 @@ module _ (K : Codec) (L : Lawful K) where
       go (allowed-event l e m r q) = allowed-event l e m r q
       go (allowed-answer n l e m c tc nlt is r ad mk w) = allowed-answer n l e m c tc (let k = length-append got rest in omega arith) (getD-append-left got rest (faulty 0 0) n nlt ∙ is) r ad mk w
 
-  -- one more line
+  -- and has emitted a line more
   allowed-push : (got : List Read) (es : List Line) (x : Line) → All-allowed K got es → Allowed K got es x → All-allowed K got (es ++ (x ∷ []))
   allowed-push got es x f now j lt = go (cases-lt j (length es))
     where
@@ -205,7 +206,7 @@ module _ (K : Codec) (L : Lawful K) where
           let e : length ms ≡ n = let k = length-push ms m in omega arith in
           rw (getD-push ms m no-message n e) (inl (new e))
 
-  -- ---- settle, and whatever leaves what waits waiting
+  -- ---- settle, and every call after which what was open or given up still is one of them
   keep-commands : (base j : ℕ) (ms : List Message) (es : List Line) (owner : ℕ → ℕ → Bool) (b a : ℕ → Slot) → ((y : ℕ) (p : Pending) → Waits (b y) p → Waits (a y) p) → Commands K base j ms es owner b → Commands K base j ms es owner a
   keep-commands base j ms es owner b a keep cs n lt = go (cs n lt)
     where
@@ -229,7 +230,7 @@ module _ (K : Codec) (L : Lawful K) where
   settle-keeps b a n (was-open q is put) = put-keeps b a n (is-given-up q) put (λ p w. rw (waits-one (rw is at w) (when-open q)) (when-given-up q))
   settle-keeps b a n (not-held x same) = same-keeps b a same
 
-  -- ---- the player emits a line
+  -- ---- an emission
   with-line-is : (base n : ℕ) (x : Line) (ls : List (List ℕ)) → with-line base x (base + n) ls ≡ ls ++ answer-to n (not-empty (x ∷ []))
   with-line-is base n (event-line l e) ls = sym (append-nil ls)
   with-line-is base n (empty-line e) ls = sym (append-nil ls)
@@ -294,8 +295,8 @@ module _ (K : Codec) (L : Lawful K) where
       (allowed-push _ (emitted-since h) (answer-line n l e) (o .emits .allowed) (allowed-answer n l e m c tc lt is r ad mk (rw (answer-not-empty n (since lines [] h)) w)))
       (λ i le. answer-other i n l e (λ q. let f = g .0 in omega arith)) o
 
-  -- ---- pump hands a line out
-  -- it is the next that was emitted
+  -- ---- pump with a finished line
+  -- that line is the next one emitted
   comes-next : (outs ins : List ℕ) (ls : List Line) (r : List (List ℕ × Read)) (i : List ℕ) (p : Part) (l : List ℕ) (x : Read) (k : List ℕ) → Emits K outs ins ls → (w : Read-so-far K ins r i p) → (y : Takes K (left-from [] (w .consumed)) i l x k)
       → (length r < length (not-empty ls)) × (text (getD (not-empty ls) (length r) (empty-line 13)) ≡ left-from (left-from [] (w .consumed)) (y .front))
   comes-next outs ins ls r i p l x k o w y = at-place (not-empty ls) cut-off (lines-from [] k ++ rest) line (length r) (regroup ∙ whole) (sym (length-map cut-off (as-shown K)) ∙ ap length (sym (w .so-far)))
@@ -348,7 +349,7 @@ module _ (K : Codec) (L : Lawful K) where
     abbrev Told-right : Line → Type 0
     Told-right x = Right K h kind l x × Match-of K (handed kind l r ∷ h) t
 
-    -- the line stands whole in the buffer
+    -- a readable line is short enough to stand in the buffer uncut
     stands : (m : Message) → K .as-answer line ≡ meant m → l ≡ line
     stands m rd = cut-is ∙ take-all 1024 line (L .answer-plain line m rd .short)
 
@@ -371,7 +372,7 @@ module _ (K : Codec) (L : Lawful K) where
         (mine : getD (since messages [] h) n no-message ≡ c)
         (handed-it : Handed-on K (s .slots) (t .slots) (owners h) (before h + n) c (answer-to n (told-so-far h)) line kind)
         (same-l : l ≡ line) where
-      -- its own answer has one line more, the others none
+      -- the lines handed out now have one more in answer to this command, and none more to another
       grew : answer-to n (told-with-next h) ≡ answer-to n (told-so-far h) ++ (line ∷ [])
       grew = next-answer n (count-shown h) (emitted-since h) lt ∙ rw (is, answer-same n line e)
 
@@ -446,7 +447,7 @@ module _ (K : Codec) (L : Lawful K) where
         go (inl al) = step-answer n e c (is ∙ rw tx) (g .1) (hand-on K (s .slots) (t .slots) (owners h) (before h + n) c so-far line m tc reads-line whole-line kind al ad mk (rw (read-is ∙ reads-line) at (hd .told))) (stands m reads-line) got
         go (inr done) = absurd (no-longer K (whole-from K done) line tc (whole-from K whole-line))
 
-  -- ---- the other calls
+  -- ---- the calls that hand nothing out
   keep : (ms : List Message) (outs outgoing ins : List ℕ) (ls : List Line) (j base total : ℕ) (given done : ℕ → List (List ℕ)) (owner : ℕ → ℕ → Bool) (b : ℕ → Slot) (after : List ℕ) (a : ℕ → Slot)
       → after ≡ outgoing → ((y : ℕ) (p : Pending) → Waits (b y) p → Waits (a y) p)
       → Match K ms outs outgoing ins ls j base total given done owner b → Match K ms outs after ins ls j base total given done owner a
@@ -519,7 +520,7 @@ module _ (K : Codec) (L : Lawful K) where
       more-got : Begins (commands-read K h) (lines-read (K .as-command) (since bytes-out [] h ++ bs))
       more-got = begins-read (K .as-command) (since bytes-out [] h) bs
 
-  -- ---- every history
+  -- ---- all histories
   pub record Matching (first : Meaning) (h : History) (s : State) : Type 0 where
     pub empty-then : first .incoming ≡ []
     pub core : Match-of K h s

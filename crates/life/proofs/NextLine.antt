@@ -1,4 +1,4 @@
--- The next line of an answer finds its number open or given up, its address equal and its place next.
+-- The next line of an unfinished answer is told as such: its number is open or given up, with this address and at this place.
 use mathlib.Core.Path.{_≡_, refl, sym, _∙_}
 use mathlib.Core.Bool.{Bool, true, false}
 use mathlib.Core.List.{List, [], _∷_, _++_, append-assoc}
@@ -13,7 +13,8 @@ use Rattle.life.specs.Promises.{ends-answer}
 use Rattle.life.specs.Link.{Pending, Slot, Same, Waits, when-open, when-given-up, Idle, advanced, Told, told-event, told-notice, told-unknown, told-elsewhere, told-misplaced, told-more, told-last, told-late, told-late-last}
 use Rattle.life.proofs.Answering.{Whole, Comes, comes, whole-some, never-both, whole-from}
 
--- the command of the kth ticket, of whose answer the lines ls were handed out and which is not whole: it holds the number x, waiting at p
+-- The command of the kth ticket has the number x, which is open or given up with p. Of its answer the lines ls were handed out, and p has
+-- the place after them.
 pub record Waiting-at (K : Codec) (b : ℕ → Slot) (owner : ℕ → ℕ → Bool) (k : ℕ) (command : Message) (ls : List (List ℕ)) (x : ℕ) (p : Pending) : Type 0 where
   pub small : x < 10
   pub mark : command .mark ≡ 48 + x
@@ -28,18 +29,19 @@ pub record Waiting (K : Codec) (b : ℕ → Slot) (owner : ℕ → ℕ → Bool)
   pub pending : Pending
   pub here : Waiting-at K b owner k command ls number pending
 
--- a command holds its number as long as its answer is not whole
+-- a command has its number as long as its answer is unfinished
 abbrev pub Waiting-or-whole : (K : Codec) → (ℕ → Slot) → (ℕ → ℕ → Bool) → ℕ → Message → List (List ℕ) → Type 0
 Waiting-or-whole K b owner k command ls = Waiting K b owner k command ls ⊎ Whole-answer K command ls
 
--- the kinds that hand a line to the ticket that last got n
+-- the kinds that name the number n
 pub data To : Kind → ℕ → Type 0 where
   to-more : (n : ℕ) → To (more n) n
   to-last : (n : ℕ) → To (last n) n
   to-late : (n : ℕ) → To (late n) n
   to-late-last : (n : ℕ) → To (late-last n) n
 
--- what the next line l of its answer does: it is told as a kind that hands it to this ticket, as the last just where the answer is whole
+-- What is told of the line l, the next one of the answer: a kind that names the command's number, and that ends the answer just where
+-- it is whole with l.
 pub record Handed-on (K : Codec) (b a : ℕ → Slot) (owner : ℕ → ℕ → Bool) (k : ℕ) (command : Message) (ls : List (List ℕ)) (l : List ℕ) (kind : Kind) : Type 0 where
   pub number : ℕ
   pub to : To kind number
@@ -67,7 +69,7 @@ pub false-true : {X : Type 0} → false ≡ true → X
 false-true e = let z : _≡_ {A = ℕ} 0 1 = cc in absurd (omega arith)
 
 module _ (K : Codec) where
-  -- an event is told as one
+  -- of a line with the mark ! nothing but event is told
   pub event-told : {b a : ℕ → Slot} {m : Message} {kind : Kind} → m .mark ≡ 33 → Told K b a (meant m) kind → (kind ≡ event) × Same b a
   event-told e (told-event m k s) = (refl, s)
   event-told e (told-notice m k s) = absurd (omega arith)
@@ -80,7 +82,7 @@ module _ (K : Codec) where
   event-told e (told-late-last m n p k l is x y put) = absurd (omega arith)
 
   module _ (b a : ℕ → Slot) (owner : ℕ → ℕ → Bool) (k : ℕ) (command : Message) (ls : List (List ℕ)) where
-    -- it is at the number of the mark, and at what waits there
+    -- the number that the mark names is the command's own
     at-number : (x : ℕ) (p : Pending) (n : ℕ) (q : Pending) → Waiting-at K b owner k command ls x p → command .mark ≡ 48 + n → Waits (b n) q → Waiting-at K b owner k command ls n q
     at-number x p n q al e w = rw same-p at al-n
       where
@@ -126,7 +128,7 @@ module _ (K : Codec) where
           go more-lines (inl c) = absurd (never-both K _ q (c .0) f)
           go more-lines (inr c) = let g = c .1 in let s : c .0 ≡ q = cc in rw s at (c .2)
 
-      -- what is told with it
+      -- the line is told as the next one
       pub hand-on : (kind : Kind) → Waiting K b owner k command ls → K .same-address (m .address) (command .address) ≡ true → m .mark ≡ command .mark → Told K b a (meant m) kind → Handed-on K b a owner k command ls l kind
       hand-on kind al ad mk (told-event m e s) = let f = al .here .mark in absurd (omega arith)
       hand-on kind al ad mk (told-notice m e s) = let f = al .here .mark in let g = al .here .small in absurd (omega arith)

@@ -28,7 +28,7 @@ lines-end-more (x ∷ u) e rest is l = rw is
 pub begins-read : {X : Type 0} (f : List ℕ → X) (xs ys : List ℕ) → Begins (lines-read f xs) (lines-read f (xs ++ ys))
 begins-read f xs ys = (map f (lines-from (left-from [] xs) ys), sym (ap (map f) (lines-append [] xs ys) ∙ map-append f (lines-from [] xs) (lines-from (left-from [] xs) ys)))
 
--- a line with no end in it
+-- bytes with no end among them
 clean-head : (b : ℕ) (l : List ℕ) → no-ends (b ∷ l) ≡ true → (is-end b ≡ false) × (no-ends l ≡ true)
 clean-head b l h = go (is-end b) refl
   where
@@ -44,7 +44,7 @@ pub lines-clean : (u l : List ℕ) → no-ends l ≡ true → lines-from u l ≡
 lines-clean u [] h = refl
 lines-clean u (b ∷ l) h = let c = clean-head b l h in rw (c .0) (lines-clean (u ++ (b ∷ [])) l (c .1))
 
--- one whole line
+-- such a line and its end
 pub lines-one : (l : List ℕ) (e : ℕ) → no-ends l ≡ true → is-end e ≡ true → 0 < length l → lines-from [] (l ++ (e ∷ [])) ≡ l ∷ []
 lines-one l e c is n = lines-append [] l (e ∷ []) ∙ rw (lines-clean [] l c, left-clean [] l c) (lines-end l e is n)
 
@@ -59,7 +59,7 @@ read-squeezed K L u = go (cases-lt 1024 (length u))
     go (inl l) = rw (lt-ltb 1024 (length u) l) (sym (L .too-long u l))
     go (inr l) = rw (le-ltb 1024 (length u) l, take-all 1024 u l)
 
--- what pump takes, by the whole of the unfinished line
+-- Pump takes bytes up to the end of a line. u is all of the unfinished line, also what is not held of it.
 pub record Takes (K : Codec) (u incoming : List ℕ) (l : List ℕ) (r : Read) (rest : List ℕ) : Type 0 where
   pub front : List ℕ
   pub stop : ℕ

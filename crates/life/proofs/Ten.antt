@@ -1,4 +1,4 @@
--- For code that holds the slots of the ten numbers as a list: how `Put` comes from a `set`, and a reset from a `map`.
+-- The ten numbers as a list, as code holds them: one that is set, and all of them after a reset.
 use mathlib.Core.Path.{_≡_}
 use mathlib.Core.List.{List, map}
 use Prim.Native.Nat.{ℕ, _<_}

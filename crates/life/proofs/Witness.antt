@@ -1,4 +1,4 @@
--- A toy codec that is lawful, and a life with it and an honest player, step by step.
+-- The promises can be met: a codec that reads each plain line as one fixed message, and a history with it call by call.
 use mathlib.Core.Path.{_≡_, refl, sym, ap}
 use mathlib.Core.Bool.{Bool, true, false, cond, _&&_}
 use mathlib.Core.List.{List, [], _∷_, _++_}

@@ -2,3 +2,5 @@
 pub mod Forms
 pub mod Lines
 pub mod Meanings
+pub mod Reads
+pub mod Cuts

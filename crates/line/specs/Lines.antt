@@ -91,10 +91,18 @@ abbrev pub or-fault : {X : Type 0} → Option X → ℕ → ℕ → (X → Read)
 or-fault None number place later = faulty number place
 or-fault (Some x) number place later = later x
 
--- the check, where there is one: two digits, and the sum modulo 100 of the bytes up to and with the third slash
-abbrev pub checked : List ℕ → ℕ → Option (List ℕ) → Read → Read
-checked line place None later = later
-checked line place (Some c) later = or-fault (two-digits c) 7 place (λ said. cond (eqb said (check-of (take place line))) later (faulty 8 place))
+abbrev pub unless-number : Option ℕ → ℕ → Read → Read
+unless-number None place later = later
+unless-number (Some number) place later = faulty number place
+
+-- the check, where there is one, is two digits: the sum modulo 100 of the bytes up to and with the third slash
+abbrev pub sum-fault : Option ℕ → ℕ → Option ℕ
+sum-fault None right = Some 7
+sum-fault (Some said) right = cond (eqb said right) None (Some 8)
+
+abbrev pub check-fault : List ℕ → Option (List ℕ) → Option ℕ
+check-fault summed None = None
+check-fault summed (Some c) = sum-fault (two-digits c) (check-of summed)
 
 abbrev pub body-read : Side → Address → ℕ → Parts → Read
 body-read side a m p =
@@ -103,16 +111,22 @@ body-read side a m p =
     (meant (record { side = side; address = a; mark = m; fields = f .0 ∷ map resolved (f .1) }))
     (faulty 10 (body-place p)))
 
-abbrev pub parts-read : Side → List ℕ → Parts → Read
-parts-read side line p =
+-- `summed` are the bytes up to and with the third slash
+abbrev pub parts-read : Side → Parts → List ℕ → Read
+parts-read side p summed =
     or-fault (address-of side (p .address)) 5 0 (λ a.
     or-fault (mark-of side (p .mark)) 6 (mark-place p) (λ m.
-    checked line (check-place p) (p .check) (body-read side a m p)))
+    unless-number (check-fault summed (p .check)) (check-place p) (body-read side a m p)))
 
 abbrev pub reading : Side → List ℕ → Read
 reading side line =
     cond (leb (length line) 1024)
     (unless-at (first-invisible line) 2
     (unless-at (first-broken (tokens line)) 3
-    (or-fault (parted side (parts 47 line)) 4 (length line) (parts-read side line))))
+    (or-fault (parted side (parts 47 line)) 4 (length line) (λ p. parts-read side p (take (check-place p) line)))))
     (faulty 1 1024)
+
+-- ---- the check that stands in a line, by its value
+abbrev pub check-value : Option (List ℕ) → Option ℕ
+check-value None = None
+check-value (Some c) = two-digits c

@@ -15,6 +15,7 @@ use Rattle.line.specs.Lines.{Parts, Read, meant, faulty, fields-of}
 use Rattle.line.specs.Lines.{Message as Meaning}
 use Rattle.line.specs.declared.message.Side.{Side}
 use Rattle.line.specs.declared.message.Side.the-variants.{Command as CommandSide, Answer as AnswerSide}
+use Rattle.line.specs.declared.message.Address.{Address as Place}
 use Rattle.line.specs.declared.message.Message.{Message}
 use Rattle.line.specs.declared.message.Message.the-variants.{Answer, Event, Command}
 use Rattle.line.specs.declared.fault.Fault.{Fault}
@@ -65,15 +66,24 @@ abbrev pub told : Fault → Read
 told f = faulty (number-of f) (valueOr (place-of f) 0)
 
 -- ---- messages
+abbrev pub placed : Place → Address
+placed a = record { device = a .device .now; zone = a .zone }
+
 abbrev pub body-fields : Option (List ℕ × List (List ℕ)) → List (List ℕ)
 body-fields None = []
 body-fields (Some f) = f .0 ∷ map resolved (f .1)
 
 abbrev pub message-of : Message → Meaning
-message-of (Answer a m b) = record { side = answer; address = record { device = a .device .now; zone = a .zone }; mark = m; fields = body-fields (fields-of (b .now)) }
-message-of (Event a b) = record { side = answer; address = record { device = a .device .now; zone = a .zone }; mark = 33; fields = body-fields (fields-of (b .now)) }
-message-of (Command a m b c) = record { side = command; address = record { device = a .device .now; zone = a .zone }; mark = m; fields = body-fields (fields-of (b .now)) }
+message-of (Answer a m b) = record { side = answer; address = placed a; mark = m; fields = body-fields (fields-of (b .now)) }
+message-of (Event a b) = record { side = answer; address = placed a; mark = 33; fields = body-fields (fields-of (b .now)) }
+message-of (Command a m b c) = record { side = command; address = placed a; mark = m; fields = body-fields (fields-of (b .now)) }
 
 abbrev pub read-of : Result Message Fault → Read
 read-of (Ok m) = meant (message-of m)
 read-of (Err f) = told f
+
+-- the check that a message keeps: that of a command, if it has one
+abbrev pub check-said : Message → Option ℕ
+check-said (Answer a m b) = None
+check-said (Event a b) = None
+check-said (Command a m b c) = c

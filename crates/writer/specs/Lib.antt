@@ -1,0 +1,3 @@
+-- Writing: the canonical line of a message, and a writer that puts it into a caller's buffer.
+pub mod Canonical
+pub mod Laws
