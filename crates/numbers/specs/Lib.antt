@@ -1,0 +1,3 @@
+-- The rules of answers to BROWSE, the codec of the link, and the ten numbers.
+pub mod Browse
+pub mod Ours

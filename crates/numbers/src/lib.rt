@@ -1,0 +1,9 @@
+// The ten numbers of a link: how each stands, what comes next in the answer to each, and that the link's codec keeps the laws that
+// the promises of its whole life need.
+ghost use Rattle.life.specs.Codec.{Lawful};
+ghost use Rattle.numbers.specs.Ours.{ours};
+
+// Lines are read and written as the promises need it.
+pub fn codec_is_lawful()
+    ensures { λ _. ⌜ Lawful ours ⌝ }
+{}
