@@ -2,3 +2,4 @@
 pub mod Tokens
 pub mod Fronts
 pub mod Spelling
+pub mod Resolving

@@ -3,6 +3,11 @@ ghost use mathlib.Core.Path.{_≡_};
 ghost use Rattle.escape.specs.Tokens.{tokens, parts, first-broken};
 ghost use Rattle.escape.specs.Fronts.{opened, halved, Joins};
 
+mod resolving;
+
+pub use resolving::resolve;
+pub use resolving::resolved_len;
+
 // What stands at the front of some bytes, and the bytes after it.
 #[derive(Clone, Copy)]
 pub enum Front<'a> {

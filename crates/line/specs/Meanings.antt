@@ -2,7 +2,7 @@
 use mathlib.Core.Bool.{cond}
 use mathlib.Core.List.{List, [], _∷_, map}
 use Prim.Native.Nat.{ℕ}
-use lib.Dec.{leb}
+use lib.Dec.{leb, eqb}
 use Rattle.std.specs.Options.{valueOr}
 use Rattle.std.specs.declared.option.Option.{Option}
 use Rattle.std.specs.declared.option.Option.the-variants.{Some, None}
@@ -19,9 +19,9 @@ use Rattle.line.specs.declared.message.Address.{Address as Place}
 use Rattle.line.specs.declared.message.Message.{Message}
 use Rattle.line.specs.declared.message.Message.the-variants.{Answer, Event, Command}
 use Rattle.line.specs.declared.fault.Fault.{Fault}
-use Rattle.line.specs.declared.fault.Fault.the-variants.{TooLong, Invisible, BadEscape, Slashes, BadAddress, BadMark, CheckForm, CheckSum, BodyEnd, FirstField, PumpBuffer}
+use Rattle.line.specs.declared.fault.Fault.the-variants.{TooLong, Invisible, BadEscape, Slashes, BadAddress, BadMark, CheckForm, CheckSum, BodyEnd, FirstField, PumpBuffer, ShortBuffer, NoField}
 use Rattle.line.specs.declared.fault.Layer.{Layer}
-use Rattle.line.specs.declared.fault.Layer.the-variants.{Line, Parts as PartsLayer, Body}
+use Rattle.line.specs.declared.fault.Layer.the-variants.{Line, Parts as PartsLayer, Body, Record}
 
 abbrev pub side-of : Side → Said
 side-of CommandSide = command
@@ -40,6 +40,8 @@ number-of (CheckSum p) = 8
 number-of (BodyEnd p) = 9
 number-of (FirstField p) = 10
 number-of PumpBuffer = 11
+number-of ShortBuffer = 14
+number-of (NoField i) = 15
 
 abbrev pub place-of : Fault → Option ℕ
 place-of TooLong = Some 1024
@@ -53,13 +55,16 @@ place-of (CheckSum p) = Some p
 place-of (BodyEnd p) = Some p
 place-of (FirstField p) = Some p
 place-of PumpBuffer = None
+place-of ShortBuffer = None
+place-of (NoField i) = Some i
 
--- 1 to 3 are told of the line, 4 to 8 of its parts, 9 and 10 of its body; 11 to 14 are numbers alone
+-- 1 to 3 are told of the line, 4 to 8 of its parts, 9 and 10 of its body, 15 of the fields of a message; 11 to 14 are numbers alone
 abbrev pub layer-of : ℕ → Option Layer
 layer-of n =
     cond (leb n 3) (Some Line)
     (cond (leb n 8) (Some PartsLayer)
-    (cond (leb n 10) (Some Body) None))
+    (cond (leb n 10) (Some Body)
+    (cond (eqb n 15) (Some Record) None)))
 
 -- a fault of a line always has a place
 abbrev pub told : Fault → Read

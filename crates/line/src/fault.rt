@@ -8,6 +8,8 @@ pub enum Layer {
     Line,
     Parts,
     Body,
+    // the fields of a message
+    Record,
 }
 
 // The places are in the line, from 0.
@@ -35,6 +37,10 @@ pub enum Fault {
     FirstField(usize),
     // 11: the buffer given to pump has fewer than 1,024 bytes
     PumpBuffer,
+    // 14: the buffer is too short, or nothing was begun
+    ShortBuffer,
+    // 15: the message has no field of that index
+    NoField(usize),
 }
 
 impl Fault {
@@ -53,10 +59,12 @@ impl Fault {
             Fault::BodyEnd(_) => 9,
             Fault::FirstField(_) => 10,
             Fault::PumpBuffer => 11,
+            Fault::ShortBuffer => 14,
+            Fault::NoField(_) => 15,
         }
     }
 
-    // Where in the line, if the reason has a place.
+    // Where in the line, or by which index, if the reason has a place.
     pub fn place(&self) -> Option<usize>
         ensures { λ r. ⌜ r ≡ place-of (now (self .entry)) ⌝ }
     {
@@ -70,8 +78,9 @@ impl Fault {
             | Fault::CheckForm(place)
             | Fault::CheckSum(place)
             | Fault::BodyEnd(place)
-            | Fault::FirstField(place) => Some(*place),
-            Fault::PumpBuffer => None,
+            | Fault::FirstField(place)
+            | Fault::NoField(place) => Some(*place),
+            Fault::PumpBuffer | Fault::ShortBuffer => None,
         }
     }
 
@@ -82,6 +91,7 @@ impl Fault {
             1..=3 => Some(Layer::Line),
             4..=8 => Some(Layer::Parts),
             9..=10 => Some(Layer::Body),
+            15 => Some(Layer::Record),
             _ => None,
         }
     }

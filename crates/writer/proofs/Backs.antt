@@ -15,7 +15,7 @@ use Rattle.escape.specs.Tokens.{digit, tokens, first-broken, parts, resolved, f
 use Rattle.escape.specs.Spelling.{spelling}
 use Rattle.escape.proofs.Chunks.{Chunk, chunk-none, chunk-plain, chunk-both, chunk-last, chunk-before, chunk-means, chunk-spelling, chunk-tame, at-colon, at-slash, Tame, tame-spelling, Seen, seen-both, seen-spelling, seen-tame}
 use Rattle.line.specs.Forms.{Side, command, answer, Address, visible, capital, name-byte, every, two-digits, address-of, is-mark, mark-of, sum, check-of, is-status, is-name, is-first-field}
-use Rattle.line.specs.Lines.{Message, Read, meant, faulty, Parts, parted, check-place, one-more, nothing-left, all-ended, first-and-later, fields-of, first-invisible, or-fault, checked, body-read, parts-read, reading}
+use Rattle.line.specs.Lines.{Message, Read, meant, faulty, Parts, parted, check-place, one-more, nothing-left, all-ended, first-and-later, fields-of, first-invisible, sum-fault, check-fault, parts-read, reading}
 use Rattle.writer.specs.Canonical.{in-two-digits, address-text, ended, body-text, head-text, closed, canonical, is-address, first-formed, formed, sendable}
 use Rattle.writer.specs.Laws.{Bytes, Reads-back}
 use Rattle.writer.proofs.Addresses.{both, never, digit-bounds, tame-digit, every-tame, two-tame, two-back, formed-address}
@@ -147,13 +147,15 @@ all-unbroken a b c bm m w =
 
 -- ---- reading, step by step
 pub reading-by : (side : Side) (line : List ℕ) (p : Parts) → leb (length line) 1024 ≡ true → first-invisible line ≡ None → first-broken (tokens line) ≡ None → parted side (parts 47 line) ≡ Some p
-    → reading side line ≡ parts-read side line p
+    → reading side line ≡ parts-read side p (take (check-place p) line)
 reading-by side line p short seen whole cut = rw (short, seen, whole, cut)
 
-parts-by : (side : Side) (line c : List ℕ) (p : Parts) (a : Address) (m : ℕ) (f : List ℕ × List (List ℕ)) →
-    address-of side (p .address) ≡ Some a → mark-of side (p .mark) ≡ Some m → p .check ≡ Some c → two-digits c ≡ Some (check-of (take (check-place p) line)) → fields-of (p .body) ≡ Some f → is-first-field side (f .0) ≡ true
-    → parts-read side line p ≡ meant (record { side = side; address = a; mark = m; fields = f .0 ∷ map resolved (f .1) })
-parts-by side line c p a m f ea em ec et ef ei = rw (ea, em, ec, et, eq-eqb (check-of (take (check-place p) line)) (check-of (take (check-place p) line)) refl, ef, ei)
+parts-by : (side : Side) (summed c : List ℕ) (p : Parts) (a : Address) (m : ℕ) (f : List ℕ × List (List ℕ)) →
+    address-of side (p .address) ≡ Some a → mark-of side (p .mark) ≡ Some m → p .check ≡ Some c → two-digits c ≡ Some (check-of summed) → fields-of (p .body) ≡ Some f → is-first-field side (f .0) ≡ true
+    → parts-read side p summed ≡ meant (record { side = side; address = a; mark = m; fields = f .0 ∷ map resolved (f .1) })
+parts-by side summed c p a m f ea em ec et ef ei =
+    let right : check-fault summed (p .check) ≡ None = ap (check-fault summed) ec ∙ ap (λ (o : Option ℕ). sum-fault o (check-of summed)) et ∙ rw (eq-eqb (check-of summed) (check-of summed) refl) in
+    rw (ea, em, right, ef, ei)
 
 mark-back : (side : Side) (m : ℕ) → is-mark side m ≡ true → mark-of side (m ∷ []) ≡ Some m
 mark-back side m e = rw e
@@ -201,7 +203,7 @@ back side a m f fs ha hm hf hb short =
     let whole : first-broken (tokens line) ≡ None = ap (λ (x : List ℕ). first-broken (tokens x)) row ∙ all-unbroken t b c (means-of (f ∷ fs)) m w in
     let cut : parted side (parts 47 line) ≡ Some p = ap (parted side) (parts-of-canonical side a m f fs ha hm hb) ∙ four-parted side t (m ∷ []) b c in
     let summed : two-digits c ≡ Some (check-of (take (check-place p) line)) = two-back (check-of (l ++ (47 ∷ []))) (omega arith) ∙ ap (λ (x : List ℕ). Some (check-of x)) (sym (up-to-check t b c m)) in
-    let read = parts-by side line c p a m (spelling f, map spelling fs) (formed-address side a ha .read) (mark-back side m hm) refl summed (body-fields-of f fs hb) (ap (is-first-field side) same ∙ hf) in
+    let read = parts-by side (take (check-place p) line) c p a m (spelling f, map spelling fs) (formed-address side a ha .read) (mark-back side m hm) refl summed (body-fields-of f fs hb) (ap (is-first-field side) same ∙ hf) in
     reading-by side line p short seen whole cut ∙ read
     ∙ ap (λ (g : List (List ℕ)). meant (record { side = side; address = a; mark = m; fields = g })) (fields-are f fs same hb)
   where
