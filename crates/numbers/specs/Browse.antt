@@ -5,7 +5,8 @@ use mathlib.Core.List.{List, [], _∷_}
 use Prim.Native.Nat.{ℕ, _+_, _-_, _*_}
 use lib.Chars.{codes}
 use lib.Dec.{leb, eqb}
-use lib.ListN.{length, getD}
+use lib.ListN.{length}
+use Rattle.std.specs.shelf.Maps.{nth}
 use Rattle.std.specs.declared.option.Option.{Option}
 use Rattle.std.specs.declared.option.Option.the-variants.{Some, None}
 use Rattle.escape.specs.Tokens.{digit}
@@ -35,30 +36,40 @@ abbrev pub is-command : Side → Bool
 is-command command = true
 is-command answer = false
 
-abbrev pub first-is : List ℕ → List (List ℕ) → Bool
-first-is text [] = false
-first-is text (f ∷ fs) = same-bytes f text
+-- the field is there, and is the text
+abbrev pub is-text : List ℕ → Option (List ℕ) → Bool
+is-text text None = false
+is-text text (Some f) = same-bytes f text
+
+-- the field is there, and is a number
+abbrev pub number-in : Option (List ℕ) → Option ℕ
+number-in None = None
+number-in (Some f) = number f
 
 -- a command named BROWSE
 abbrev pub is-browse : Message → Bool
-is-browse m = cond (is-command (m .side)) (first-is (codes "BROWSE") (m .fields)) false
+is-browse m = cond (is-command (m .side)) (is-text (codes "BROWSE") (nth (m .fields) 0)) false
 
 -- an answer of status 000
 abbrev pub okay : Message → Bool
-okay m = first-is (codes "000") (m .fields)
+okay m = is-text (codes "000") (nth (m .fields) 0)
 
--- the answer's fields have this name behind the status, and at least three more behind the name
-abbrev pub is-named : List ℕ → List (List ℕ) → Bool
-is-named name fields = cond (leb 5 (length fields)) (same-bytes (getD fields 1 []) name) false
-
--- an overview: its third field behind the name says how many result lines follow
-abbrev pub overview-in : List (List ℕ) → Option ℕ
-overview-in fields = cond (is-named (codes "BROWSE_RESULTS_OVERVIEW") fields) (number (getD fields 4 [])) None
-
--- a result line: the first and the second field behind the name are numbers, of which the first counts the lines from 1
-abbrev pub result-in : List (List ℕ) → Option ℕ
-result-in fields = cond (is-named (codes "BROWSE_RESULT") fields) (both-numbers (number (getD fields 2 [])) (number (getD fields 3 []))) None
+-- the name behind the status, where at least three fields follow it
+abbrev pub name-in : List (List ℕ) → Option (List ℕ)
+name-in fields = if-there (nth fields 4) (nth fields 1)
   where
-    both-numbers : Option ℕ → Option ℕ → Option ℕ
-    both-numbers None second = None
-    both-numbers (Some n) second = if-some second n
+    if-there : Option (List ℕ) → Option (List ℕ) → Option (List ℕ)
+    if-there None name = None
+    if-there (Some third) name = name
+
+-- an overview: the third field after the name says how many result lines follow
+abbrev pub overview : Message → Option ℕ
+overview m = cond (is-text (codes "BROWSE_RESULTS_OVERVIEW") (name-in (m .fields))) (number-in (nth (m .fields) 4)) None
+
+-- a result line: the first two fields after the name are numbers, of which the first counts the lines from 1
+abbrev pub result : Message → Option ℕ
+result m = cond (is-text (codes "BROWSE_RESULT") (name-in (m .fields))) (both-in (number-in (nth (m .fields) 2)) (number-in (nth (m .fields) 3))) None
+  where
+    both-in : Option ℕ → Option ℕ → Option ℕ
+    both-in None second = None
+    both-in (Some count) second = if-some second count

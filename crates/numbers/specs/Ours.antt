@@ -9,7 +9,7 @@ use Rattle.line.specs.Forms.{command, answer, Address, every}
 use Rattle.line.specs.Lines.{Message, reading}
 use Rattle.writer.specs.Canonical.{canonical, sendable}
 use Rattle.life.specs.Codec.{Codec}
-use Rattle.numbers.specs.Browse.{same-bytes, is-command, is-browse, okay, overview-in, result-in}
+use Rattle.numbers.specs.Browse.{same-bytes, is-command, is-browse, okay, overview, result}
 
 abbrev pub all-bytes : List (List ℕ) → Bool
 all-bytes [] = true
@@ -38,6 +38,6 @@ ours = record {
   same-address = same-address;
   is-browse = is-browse;
   okay = okay;
-  overview = λ m. overview-in (m .fields);
-  result = λ m. result-in (m .fields);
+  overview = overview;
+  result = result;
 }
