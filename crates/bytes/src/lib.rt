@@ -1,9 +1,9 @@
 // Copies between byte slices that stop where either side ends, so that no caller has to size them first.
 ghost use mathlib.Core.Path.{_≡_};
 ghost use mathlib.Core.List.{_++_};
-ghost use Prim.Native.Nat.{_+_, _-_, min};
+ghost use Prim.Native.Nat.{min};
 ghost use lib.ListN.{length, take, drop};
-ghost use Rattle.bytes.specs.Parts.{part};
+ghost use Rattle.bytes.specs.Parts.{Filled, Copied};
 
 // Copies as much of `src` as fits to the front of `dst`, and answers how much.
 pub fn fill_front(dst: &mut [u8], src: &[u8]) -> usize
@@ -17,8 +17,7 @@ pub fn fill_front(dst: &mut [u8], src: &[u8]) -> usize
 
 // Copies as much of `src` as fits to `dst` from `at` on, and answers how much.
 pub fn fill_at(dst: &mut [u8], at: usize, src: &[u8]) -> usize
-    ensures count { λ k. ⌜ k ≡ min (length (now (dst .entry)) - at) (length (now (src .entry))) ⌝ }
-    ensures after { λ k. ⌜ now (dst .exit) ≡ take at (now (dst .entry)) ++ (take k (now (src .entry)) ++ drop (at + k) (now (dst .entry))) ⌝ }
+    ensures { λ k. ⌜ Filled (now (dst .entry)) (now (dst .exit)) at (now (src .entry)) k ⌝ }
 {
     let start = at.min(dst.len());
     fill_front(&mut dst[start..], src)
@@ -26,8 +25,7 @@ pub fn fill_at(dst: &mut [u8], at: usize, src: &[u8]) -> usize
 
 // Copies as much as fits of what `src` holds from `first` up to `end` to the front of `dst`, and answers how much.
 pub fn fill_from(dst: &mut [u8], src: &[u8], first: usize, end: usize) -> usize
-    ensures count { λ k. ⌜ k ≡ min (length (now (dst .entry))) (min end (length (now (src .entry))) - first) ⌝ }
-    ensures after { λ k. ⌜ now (dst .exit) ≡ take k (part (now (src .entry)) first end) ++ drop k (now (dst .entry)) ⌝ }
+    ensures { λ k. ⌜ Copied (now (dst .entry)) (now (dst .exit)) (now (src .entry)) first end k ⌝ }
 {
     let stop = end.min(src.len());
     let start = first.min(stop);

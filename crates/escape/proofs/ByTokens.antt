@@ -21,10 +21,9 @@ tokens-escape (by-letter x b is) s = after-short x s (not-d x b is) ∙ ap (λ (
 tokens-escape (by-number x y z b is) s = ap (λ (o : Option ℕ). escaping o (100 ∷ x ∷ y ∷ z ∷ []) s (tokens s)) is
 
 module _ (P : List ℕ → Type 0) (none : P [])
-  (a-plain : (b : ℕ) (s : List ℕ) → (b ≡ 92 → ⊥) → P s → P (b ∷ s))
-  (an-escape : (e : List ℕ) (b : ℕ) (s : List ℕ) → Escapes e b → P s → P (92 ∷ (e ++ s)))
-  (a-broken : (rest : List ℕ) → tokens (92 ∷ rest) ≡ broken rest ∷ [] → P (92 ∷ rest)) where
-
+    (a-plain : (b : ℕ) (s : List ℕ) → (b ≡ 92 → ⊥) → P s → P (b ∷ s))
+    (an-escape : (e : List ℕ) (b : ℕ) (s : List ℕ) → Escapes e b → P s → P (92 ∷ (e ++ s)))
+    (a-broken : (rest : List ℕ) → tokens (92 ∷ rest) ≡ broken rest ∷ [] → P (92 ∷ rest)) where
   first-byte : (b : ℕ) (s : List ℕ) (e : Bool) → eqb b 92 ≡ e → P (92 ∷ s) → P s → P (b ∷ s)
   first-byte b s true p h k = subst (λ (c : ℕ). P (c ∷ s)) (sym (eqb-true b 92 p)) h
   first-byte b s false p h k = a-plain b s (eqb-false b 92 p) k

@@ -15,7 +15,6 @@ use Rattle.std.specs.declared.option.Option.the-variants.{Some, None}
 use Rattle.escape.specs.Tokens.{Token, plain, escape, broken, tokens, short, numbered, three-digits, digit, further, first-broken, ahead, parts-of, parts, resolved, bytes-meant}
 use Rattle.escape.specs.Spelling.{letter-for, in-digits, spelled-with, spelled, spelling}
 use Rattle.escape.proofs.Opening.{tokens-plain}
-use Rattle.escape.proofs.Opening.{in-digits as numbered-is}
 use Rattle.escape.proofs.ByTokens.{Escapes, by-letter, by-number, tokens-escape}
 use Rattle.escape.proofs.Walking.{parts-other, parts-here, ahead-twice, ahead-none}
 
@@ -79,7 +78,7 @@ is-short : (b x : ℕ) → letter-for b ≡ Some x → Shortened b x
 is-short b x = go (eqb b 58) refl (eqb b 47) refl (eqb b 92) refl (eqb b 10) refl (eqb b 13) refl (eqb b 9) refl
   where
     go : (p : Bool) → eqb b 58 ≡ p → (q : Bool) → eqb b 47 ≡ q → (r : Bool) → eqb b 92 ≡ r → (u : Bool) → eqb b 10 ≡ u → (v : Bool) → eqb b 13 ≡ v → (w : Bool) → eqb b 9 ≡ w →
-      cond p (Some 58) (cond q (Some 47) (cond r (Some 92) (cond u (Some 110) (cond v (Some 114) (cond w (Some 116) None))))) ≡ Some x → Shortened b x
+        cond p (Some 58) (cond q (Some 47) (cond r (Some 92) (cond u (Some 110) (cond v (Some 114) (cond w (Some 116) None))))) ≡ Some x → Shortened b x
     go true p q0 q r0 r u0 u v0 v w0 w e = shortened b x 58 58 p e refl (omega arith) (omega arith)
     go false p true q r0 r u0 u v0 v w0 w e = shortened b x 47 47 q e refl (omega arith) (omega arith)
     go false p false q true r u0 u v0 v w0 w e = shortened b x 92 92 r e refl (omega arith) (omega arith)
@@ -87,6 +86,10 @@ is-short b x = go (eqb b 58) refl (eqb b 47) refl (eqb b 92) refl (eqb b 10) ref
     go false p false q false r false u true v w0 w e = shortened b x 13 114 v e refl (omega arith) (omega arith)
     go false p false q false r false u false v true w e = shortened b x 9 116 w e refl (omega arith) (omega arith)
     go false p false q false r false u false v false w e = let z : _≡_ {A = ℕ} 0 1 = cc in absurd (omega arith)
+
+-- three digits of a byte's number
+pub numbered-is : (x y z : ℕ) → 48 ≤ x → x ≤ 57 → 48 ≤ y → y ≤ 57 → 48 ≤ z → z ≤ 57 → three-digits x y z ≤ 255 → numbered x y z ≡ Some (three-digits x y z)
+numbered-is x y z a b c d e f g = rw (le-leb 48 x a, le-leb x 57 b, le-leb 48 y c, le-leb y 57 d, le-leb 48 z e, le-leb z 57 f, le-leb (three-digits x y z) 255 g)
 
 by-three : (b : ℕ) → b < 256 → Spelt b (in-digits b)
 by-three b h =

@@ -69,11 +69,3 @@ number-front (p ∷ q ∷ x ∷ y ∷ []) b h e f g = absurd (omega arith)
 number-front (p ∷ q ∷ x ∷ y ∷ z ∷ s) b h e f g =
     rw (rest-of 5 (p ∷ q ∷ x ∷ y ∷ z ∷ s) h, between p (q ∷ x ∷ y ∷ z ∷ s) 4 (omega arith))
     (sym (tokens-backslash p (q ∷ x ∷ y ∷ z ∷ s) e ∙ after-number q (x ∷ y ∷ z ∷ s) f ∙ ap (λ (o : Option ℕ). escaping o (100 ∷ x ∷ y ∷ z ∷ []) s (tokens s)) g ∙ ap (λ (d : ℕ). escape (d ∷ x ∷ y ∷ z ∷ []) b ∷ tokens s) (sym f)))
-
-pub in-digits : (x y z : ℕ) → 48 ≤ x → x ≤ 57 → 48 ≤ y → y ≤ 57 → 48 ≤ z → z ≤ 57 → three-digits x y z ≤ 255 → numbered x y z ≡ Some (three-digits x y z)
-in-digits x y z a b c d e f g = rw (le-leb 48 x a, le-leb x 57 b, le-leb 48 y c, le-leb y 57 d, le-leb 48 z e, le-leb z 57 f, le-leb (three-digits x y z) 255 g)
-
-pub stands-for-itself : (x : ℕ) → (x ≡ 58) ⊎ ((x ≡ 47) ⊎ (x ≡ 92)) → short x ≡ Some x
-stands-for-itself x (inl e) = rw e
-stands-for-itself x (inr (inl e)) = rw e
-stands-for-itself x (inr (inr e)) = rw e

@@ -41,13 +41,12 @@ sought-start s = ([], refl, further-none (first-broken (tokens s)))
 
 pub sought-more : (s rest more : List ℕ) (t : Token) → t ∷ tokens more ≡ tokens rest → first-broken (t ∷ tokens more) ≡ further (length (spelt t)) (first-broken (tokens more)) → Sought s rest → Sought s more
 sought-more s rest more t e one w =
-    let f = front-text rest more t e in
-    (
+    let f = front-text rest more t e in (
       w .0 ++ spelt t,
       w .1 ∙ ap (λ (x : List ℕ). w .0 ++ x) f ∙ sym (append-assoc (w .0) (spelt t) more),
       w .2 ∙ ap (λ (ts : List Token). further (length (w .0)) (first-broken ts)) (sym e) ∙ ap (further (length (w .0))) one
-      ∙ further-twice (length (w .0)) (length (spelt t)) (first-broken (tokens more))
-      ∙ ap (λ (n : ℕ). further n (first-broken (tokens more))) (sym (length-append (w .0) (spelt t))),
+          ∙ further-twice (length (w .0)) (length (spelt t)) (first-broken (tokens more))
+          ∙ ap (λ (n : ℕ). further n (first-broken (tokens more))) (sym (length-append (w .0) (spelt t))),
     )
 
 pub sought-escape : (bytes : List ℕ) (o : Option ℕ) → further (1 + length bytes) o ≡ further (length (92 ∷ bytes)) o
@@ -98,8 +97,7 @@ passed-start c s = ([], refl, ahead-none c (tokens s))
 
 pub passed-more : (c : ℕ) (s rest more : List ℕ) (t : Token) → t ∷ tokens more ≡ tokens rest → parts-of c (t ∷ tokens more) ≡ ahead (spelt t) (parts c more) → Passed c s rest → Passed c s more
 passed-more c s rest more t e one w =
-    let f = front-text rest more t e in
-    (
+    let f = front-text rest more t e in (
       w .0 ++ spelt t,
       w .1 ∙ ap (λ (x : List ℕ). w .0 ++ x) f ∙ sym (append-assoc (w .0) (spelt t) more),
       w .2 ∙ ap (λ (ts : List Token). ahead (w .0) (parts-of c ts)) (sym e) ∙ ap (ahead (w .0)) one ∙ ahead-twice (w .0) (spelt t) (parts c more),

@@ -1,7 +1,10 @@
 // The escapes of a line: which bytes stand inside one, and what they mean.
 ghost use mathlib.Core.Path.{_≡_};
-ghost use Rattle.escape.specs.Tokens.{tokens, parts, first-broken};
+ghost use Rattle.escape.specs.Tokens.{short, numbered, tokens, parts, first-broken};
 ghost use Rattle.escape.specs.Fronts.{opened, halved, Joins};
+
+// The largest byte that an escape can name by its number.
+const BYTE_MAX: u16 = 255;
 
 mod resolving;
 
@@ -21,20 +24,48 @@ pub enum Front<'a> {
     Escape(u8, &'a [u8]),
 }
 
+// The byte that a backslash and one character stand for.
+fn by_letter(x: u8) -> Option<u8>
+    ensures { λ r. ⌜ r ≡ short x ⌝ }
+{
+    match x {
+        b':' => Some(b':'),
+        b'/' => Some(b'/'),
+        b'\\' => Some(b'\\'),
+        b'n' => Some(10),
+        b'r' => Some(13),
+        b't' => Some(9),
+        _ => None,
+    }
+}
+
+// The byte that a backslash, `d` and three digits from 000 to 255 stand for.
+fn by_number(x: u8, y: u8, z: u8) -> Option<u8>
+    ensures { λ r. ⌜ r ≡ numbered x y z ⌝ }
+{
+    match (x, y, z) {
+        (b'0'..=b'9', b'0'..=b'9', b'0'..=b'9') => {
+            let n = (x - b'0') as u16 * 100 + (y - b'0') as u16 * 10 + (z - b'0') as u16;
+            if n <= BYTE_MAX { Some(n as u8) } else { None }
+        }
+        _ => None,
+    }
+}
+
 // Takes the first byte or escape off the front of `s`.
 pub fn first_of(s: &[u8]) -> Front<'_>
     ensures { λ r. ⌜ opened (now (s .entry)) r ≡ tokens (now (s .entry)) ⌝ }
 {
     match s {
         [] => Front::Over,
-        [b'\\', b'd', a @ b'0'..=b'9', b @ b'0'..=b'9', c @ b'0'..=b'9', rest @ ..] => {
-            let n = (*a - b'0') as u16 * 100 + (*b - b'0') as u16 * 10 + (*c - b'0') as u16;
-            if n <= 255 { Front::Escape(n as u8, rest) } else { Front::Broken }
-        }
-        [b'\\', x @ (b':' | b'/' | b'\\'), rest @ ..] => Front::Escape(*x, rest),
-        [b'\\', b'n', rest @ ..] => Front::Escape(10, rest),
-        [b'\\', b'r', rest @ ..] => Front::Escape(13, rest),
-        [b'\\', b't', rest @ ..] => Front::Escape(9, rest),
+        [b'\\', b'd', x, y, z, rest @ ..] => match by_number(*x, *y, *z) {
+            Some(b) => Front::Escape(b, rest),
+            None => Front::Broken,
+        },
+        [b'\\', x, rest @ ..] => match by_letter(*x) {
+            Some(b) => Front::Escape(b, rest),
+            None => Front::Broken,
+        },
         [b'\\', ..] => Front::Broken,
         [b, rest @ ..] => Front::Plain(*b, rest),
     }
@@ -47,7 +78,7 @@ pub fn broken_at(s: &[u8]) -> Option<usize>
     let mut rest = s;
     loop {
         match first_of(rest) {
-            Front::Over => return None,
+            Front::Over => return None, // every backslash began an escape
             Front::Broken => return Some(s.len() - rest.len()),
             Front::Plain(_, more) => rest = more,
             Front::Escape(_, more) => rest = more,
@@ -64,7 +95,7 @@ pub fn cut(s: &[u8], at: u8) -> Option<(&[u8], &[u8])>
     loop {
         match first_of(rest) {
             Front::Over => return None,
-            Front::Broken => return None,
+            Front::Broken => return None, // what follows counts as one part
             Front::Plain(b, more) => {
                 if b == at {
                     return Some((&s[0..s.len() - rest.len()], more));

@@ -19,9 +19,8 @@ too-many side a m b d [] e = let z : _≡_ {A = ℕ} 0 1 = cc in absurd (omega a
 too-many side a m b d (p ∷ ps) e = refl
 
 module _ (line a r m s : List ℕ)
-  (first : a ∷ parts 47 r ≡ parts 47 line) (second : m ∷ parts 47 s ≡ parts 47 r)
-  (one : line ≡ a ++ (47 ∷ r)) (two : r ≡ m ++ (47 ∷ s)) where
-
+    (first : a ∷ parts 47 r ≡ parts 47 line) (second : m ∷ parts 47 s ≡ parts 47 r)
+    (one : line ≡ a ++ (47 ∷ r)) (two : r ≡ m ++ (47 ∷ s)) where
   both : a ∷ m ∷ parts 47 s ≡ parts 47 line
   both = ap (λ (ps : List (List ℕ)). a ∷ ps) second ∙ first
 

@@ -3,3 +3,4 @@ pub mod Devices
 pub mod Bodies
 pub mod Cutting
 pub mod Tests
+pub mod Indices

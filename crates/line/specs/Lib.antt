@@ -4,3 +4,4 @@ pub mod Lines
 pub mod Meanings
 pub mod Reads
 pub mod Cuts
+pub mod Fields

@@ -9,7 +9,7 @@ use Rattle.std.specs.declared.option.Option.the-variants.{Some, None}
 use Rattle.std.specs.declared.result.Result.{Result}
 use Rattle.std.specs.declared.result.Result.the-variants.{Ok, Err}
 use Rattle.escape.specs.Tokens.{resolved}
-use Rattle.line.specs.Forms.{Address, command, answer} 
+use Rattle.line.specs.Forms.{Address, command, answer}
 use Rattle.line.specs.Forms.{Side as Said}
 use Rattle.line.specs.Lines.{Parts, Read, meant, faulty, fields-of}
 use Rattle.line.specs.Lines.{Message as Meaning}

@@ -42,7 +42,11 @@ fn serial_len(digits: &[u8]) -> Option<usize>
     if digits.len() < 12 {
         return None;
     }
-    if all_hex(&digits[0..12]) { Some(13) } else { None }
+    if all_hex(&digits[0..12]) {
+        Some(13)
+    } else {
+        None
+    }
 }
 
 // How many bytes at the front name a device.
@@ -87,7 +91,10 @@ pub fn address_in(side: Side, part: &[u8]) -> Option<Address<'_>>
     ensures { λ r. ⌜ mapped placed r ≡ address-of (side-of side) (now (part .entry)) ⌝ }
 {
     match (side, part) {
-        (Side::Answer, [b'?', b'?']) => Some(Address { device: part, zone: None }),
+        (Side::Answer, [b'?', b'?']) => Some(Address {
+            device: part,
+            zone: None,
+        }),
         _ => device_and_zone(part),
     }
 }

@@ -26,5 +26,9 @@ pub(crate) fn mark_in(side: Side, part: &[u8]) -> Option<char>
         return None;
     };
     let mark = *b as char;
-    if is_mark(side, mark) { Some(mark) } else { None }
+    if is_mark(side, mark) {
+        Some(mark)
+    } else {
+        None
+    }
 }

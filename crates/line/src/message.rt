@@ -17,9 +17,21 @@ pub struct Address<'a> {
 #[derive(Clone, Copy)]
 pub enum Message<'a> {
     // an answer to a numbered command, or with the mark `?` to none that is known
-    Answer { address: Address<'a>, mark: char, body: &'a [u8] },
+    Answer {
+        address: Address<'a>,
+        mark: char,
+        body: &'a [u8],
+    },
     // what the player tells unasked, with the mark `!`
-    Event { address: Address<'a>, body: &'a [u8] },
+    Event {
+        address: Address<'a>,
+        body: &'a [u8],
+    },
     // a command with its number for a mark, and the check if it has one
-    Command { address: Address<'a>, mark: char, body: &'a [u8], check: Option<u8> },
+    Command {
+        address: Address<'a>,
+        mark: char,
+        body: &'a [u8],
+        check: Option<u8>,
+    },
 }

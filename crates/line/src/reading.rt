@@ -58,26 +58,53 @@ fn parts_of(side: Side, line: &[u8]) -> Option<Parts<'_>>
     let (mark, rest) = cut(rest, b'/')?;
     match cut(rest, b'/') {
         None => match side {
-            Side::Command => Some(Parts { address, mark, body: rest, check: None, summed: line }),
+            Side::Command => Some(Parts {
+                address,
+                mark,
+                body: rest,
+                check: None,
+                summed: line,
+            }),
             Side::Answer => None,
         },
         Some((body, check)) => match cut(check, b'/') {
-            None => Some(Parts { address, mark, body, check: Some(check), summed: &line[0..line.len() - check.len()] }),
+            None => Some(Parts {
+                address,
+                mark,
+                body,
+                check: Some(check),
+                summed: &line[0..line.len() - check.len()],
+            }),
             Some(_) => None,
         },
     }
 }
 
 // The message of a line that has its form, from its parts.
-fn message<'a>(side: Side, address: Address<'a>, mark: char, body: &'a [u8], check: Option<u8>) -> Message<'a>
+fn message<'a>(
+    side: Side,
+    address: Address<'a>,
+    mark: char,
+    body: &'a [u8],
+    check: Option<u8>,
+) -> Message<'a>
     ensures meaning { λ r. ⌜ message-of r ≡ said (side-of side) (placed (address .entry)) mark (now (body .entry)) ⌝ }
     ensures check { λ r. ⌜ check-said r ≡ if-command (side-of side) check ⌝ }
 {
     match side {
-        Side::Command => Message::Command { address, mark, body, check },
+        Side::Command => Message::Command {
+            address,
+            mark,
+            body,
+            check,
+        },
         Side::Answer => match mark {
             '!' => Message::Event { address, body },
-            _ => Message::Answer { address, mark, body },
+            _ => Message::Answer {
+                address,
+                mark,
+                body,
+            },
         },
     }
 }

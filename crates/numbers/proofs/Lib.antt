@@ -1,1 +1,3 @@
 pub mod Lawful
+pub mod Texts
+pub mod Numerals

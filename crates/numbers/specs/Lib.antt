@@ -1,3 +1,4 @@
 -- The rules of answers to BROWSE, the codec of the link, and the ten numbers.
 pub mod Browse
 pub mod Ours
+pub mod Steps

@@ -3,6 +3,12 @@
 ghost use Rattle.life.specs.Codec.{Lawful};
 ghost use Rattle.numbers.specs.Ours.{ours};
 
+mod numeral;
+mod text;
+
+pub use numeral::number_of;
+pub use text::same_bytes;
+
 // Lines are read and written as the promises need it.
 pub fn codec_is_lawful()
     ensures { λ _. ⌜ Lawful ours ⌝ }

@@ -24,10 +24,10 @@ ring-run old new src head len tail j n h l m o w is =
     let e : length (take j src) ≡ j = length-take-le j src o in
     rw e at (ring-run-all old new (take j src) head len tail n h (rw e l) (rw e m) w (rw e is))
 
--- Two runs, the second of what the first left of the first k of src.
-pub two-runs : (held mid end src : List ℕ) (k j i : ℕ) → j + i ≡ k → mid ≡ held ++ take j (take (k - 0) src) → end ≡ mid ++ take i (take (k - j) (drop j src)) → end ≡ held ++ take k src
-two-runs held mid end src k j i all em ee =
-    rw (ee, em) (append-assoc held (take j (take (k - 0) src)) (take i (take (k - j) (drop j src)))
+-- Two runs of src, the second of what the first left.
+pub two-runs : (held mid end src : List ℕ) (j i : ℕ) → end ≡ mid ++ take i (take (length src - j) (drop j src)) → mid ≡ held ++ take j src → j + i ≡ length src → end ≡ held ++ src
+two-runs held mid end src j i ee em all =
+    rw (ee, em) (append-assoc held (take j src) (take i (take (length src - j) (drop j src)))
     ∙ ap (λ t. held ++ t) (same-lists _ _ (search (needs, places)) (λ p d t. grind (arith, places))))
 
 -- k bytes out to a buffer in two copies: first what lies before the ring's end, then the rest from its start.

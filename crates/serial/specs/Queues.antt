@@ -20,6 +20,12 @@ pub record Put (before after : Queue) (src : List ℕ) (k : ℕ) : Type 0 where
   pub holds : held after ≡ held before ++ take k src
   pub grown : length (held after) ≡ length (held before) + k
 
+-- The first k bytes were copied to the front of a buffer, which was `old` and is `new`.
+pub record Shown (queue : Queue) (old new : List ℕ) (k : ℕ) : Type 0 where
+  pub count : k ≡ min (length old) (length (held queue))
+  pub within : k ≤ queue .len
+  pub buffer : new ≡ take k (held queue) ++ drop k old
+
 -- k bytes went out in front, to the front of a buffer, which was `old` and is `new`.
 pub record Got (before after : Queue) (old new : List ℕ) (k : ℕ) : Type 0 where
   pub count : k ≡ min (length old) (length (held before))

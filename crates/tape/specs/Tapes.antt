@@ -2,18 +2,17 @@
 use mathlib.Core.List.{List, []}
 use mathlib.Core.Bool.{Bool, true, false}
 use Prim.Native.Nat.{ℕ, _-_}
-use lib.ListN.{length, drop}
 use Rattle.std.specs.Of.Vec.{vec-items, vec-len}
 use Rattle.bytes.specs.Parts.{part}
 use Rattle.port.specs.Port.{Meaning}
 use Rattle.tape.specs.declared.tape.Tape.{Tape}
 
--- In is what was not played yet of the recording; Out is what stands between the places sent and the places filled.
+-- In is the recording from the place played to on; Out is what was written from the place sent to on.
 -- The rooms are computed from the tape here, so that after every call RoomIn is exactly 0
 -- and RoomOut exactly the places that were never written.
 abbrev pub tape : Tape → Meaning
 tape t = record {
-  incoming = drop (t .played) (vec-items (t .recording));
+  incoming = part (vec-items (t .recording)) (t .played) (vec-len (t .recording));
   outgoing = part (vec-items (t .out)) (t .sent) (t .filled);
   room-in = 0;
   room-out = vec-len (t .out) - t .filled;

@@ -110,6 +110,7 @@ front-device (b ∷ s) n e = go (eqb b 35) refl e
         let len = leb-true 12 (length s) (f .0) in
         let k : n ≡ 13 = cc in
         rw (k, is) (by-serial (take 12 s) (length-take-le 12 s len) (g .0), omega arith)
+
     pair : (t : List ℕ) → pair-length b t ≡ Some n → Device (take n (b ∷ t)) × (n ≤ length (b ∷ t))
     pair [] e = let z : _≡_ {A = ℕ} 0 1 = cc in absurd (omega arith)
     pair (c ∷ t) e = found (unless-zero (digit-pair b c)) refl e
@@ -117,6 +118,7 @@ front-device (b ∷ s) n e = go (eqb b 35) refl e
         found : (o : Option ℕ) → unless-zero (digit-pair b c) ≡ o → if-some o 2 ≡ Some n → Device (take n (b ∷ c ∷ t)) × (n ≤ length (b ∷ c ∷ t))
         found None p e = let z : _≡_ {A = ℕ} 0 1 = cc in absurd (omega arith)
         found (Some k) p e = let two : n ≡ 2 = cc in rw two (by-number b c k p, omega arith)
+
     go : (t : Bool) → eqb b 35 ≡ t → cond t (serial-length s) (pair-length b s) ≡ Some n → Device (take n (b ∷ s)) × (n ≤ length (b ∷ s))
     go true p e = serial (eqb-true b 35 p) e
     go false p e = pair s e

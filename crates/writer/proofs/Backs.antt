@@ -218,7 +218,7 @@ reads-back m ok hb =
     go (m .side) (m .address) (m .mark) (m .fields) (g .0) (h .0) (h .1) hb (f .1)
   where
     go : (side : Side) (a : Address) (mark : ℕ) (fs : List (List ℕ)) → is-address side a ≡ true → is-mark side mark ≡ true → first-formed side fs ≡ true → Bytes fs
-      → leb (length (closed (head-text (address-text a) mark ++ body-text fs))) 1024 ≡ true
-      → reading side (closed (head-text (address-text a) mark ++ body-text fs)) ≡ meant (record { side = side; address = a; mark = mark; fields = fs })
+        → leb (length (closed (head-text (address-text a) mark ++ body-text fs))) 1024 ≡ true
+        → reading side (closed (head-text (address-text a) mark ++ body-text fs)) ≡ meant (record { side = side; address = a; mark = mark; fields = fs })
     go side a mark [] ha hm hf hb short = never hf
     go side a mark (f ∷ fs) ha hm hf hb short = back side a mark f fs ha hm hf hb short

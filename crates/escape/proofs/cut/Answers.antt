@@ -10,9 +10,6 @@ loop-b-holds c = passed-start (c .args .at) (c .args .s .now)
 pub returns-in-Over : need.returns-in-Over
 returns-in-Over c = record { parts = passed-all (c .args .at) (c .args .s .now) (c .loop-b .rest .now) _ (c .in-Over .ensures tt) refl (c .loop-b .inv); joins = tt }
 
-pub returns-in-Broken : need.returns-in-Broken
-returns-in-Broken c = record { parts = passed-all (c .args .at) (c .args .s .now) (c .loop-b .rest .now) _ (c .in-Broken .ensures tt) refl (c .loop-b .inv); joins = tt }
-
 pub sub-result : need.sub-result
 sub-result c = within (c .args .at) (c .args .s .now) (c .loop-b .rest .now) (c .loop-b .inv)
 

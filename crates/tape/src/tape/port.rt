@@ -1,9 +1,13 @@
 // A tape as a port: nothing arrives but the recording, and no place is written twice.
 // Where a port may let its rooms rise, the tape promises more: its calls keep the room to write, so no written place is given back.
 ghost use mathlib.Core.Path.{_≡_};
+ghost use mathlib.Core.List.{_++_};
+ghost use Prim.Native.Nat.{ℕ, _+_, _≤_};
+ghost use lib.ListN.{take};
+ghost use Rattle.bytes.specs.Parts.{part, Filled};
 ghost use Rattle.port.specs.Port.{Departed, Fetched, HungUp};
 ghost use Rattle.std.specs.Vec.{made};
-ghost use Rattle.std.specs.Of.Vec.{vec-items};
+ghost use Rattle.std.specs.Of.Vec.{vec-len, vec-items};
 ghost use Rattle.tape.specs.Tapes.{tape, blank};
 use crate::tape::Tape;
 use bytes::fill_at;
@@ -27,6 +31,17 @@ impl Tape {
             clear: true,
         })
     }
+}
+
+// Writes as many of the bytes as there are places for, from the place `at` on, and answers how many.
+// A part of the places that ended there goes on with them.
+fn fill_places(places: &mut Vec<u8>, at: usize, bytes: &[u8]) -> usize
+    requires { ⌜ at ≤ vec-len (now places) ⌝ }
+    ensures fills { λ k. ⌜ Filled (vec-items (now (places .entry))) (vec-items (now (places .exit))) at (now (bytes .entry)) k ⌝ }
+    ensures size { λ k. ⌜ vec-len (now (places .exit)) ≡ vec-len (now (places .entry)) ⌝ }
+    ensures joins { λ k. ⌜ ((first : ℕ) → first ≤ at → part (vec-items (now (places .exit))) first (at + k) ≡ part (vec-items (now (places .entry))) first at ++ take k (now (bytes .entry))) ⌝ }
+{
+    fill_at(places, at, bytes)
 }
 
 pub impl Port for Tape as TapePort {
@@ -59,7 +74,7 @@ pub impl Port for Tape as TapePort {
 
     fn write(&mut self, bytes: &[u8]) -> usize {
         let filled = self.filled;
-        let k = fill_at(&mut self.out, filled, bytes);
+        let k = fill_places(&mut self.out, filled, bytes);
         self.filled = filled + k;
         k
     }

@@ -14,8 +14,7 @@ pub loop-b-again : need.loop-b-again
 loop-b-again c =
     let left = resolved (c .in-Some .more .now) in
     let e = c .in-Some .ensures tt .meaning in
-    let n = ap length e in
-    (
+    let n = ap length e in (
       laid-more (c .loop-b .out) left (c .loop-b .n) (c .in-Some .b) (omega arith) ∙ ap (laid (c .loop-b .out) (c .loop-b .n)) e ∙ c .loop-b .inv .0,
       omega arith,
     )

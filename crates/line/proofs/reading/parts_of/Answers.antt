@@ -11,8 +11,7 @@ sub-result c =
 pub returns-in-Command : need.returns-in-Command
 returns-in-Command c =
     let first = c .in-Continue-address .ensures tt in
-    let second = c .in-Continue-mark .ensures tt in
-    (
+    let second = c .in-Continue-mark .ensures tt in (
       without-check (c .args .line .now) _ _ _ _ (first .parts) (second .parts) (first .joins) (second .joins) (side-of (c .args .side)) (ap side-of (c .in-Command .is)) (c .in-None .ensures tt .parts),
       tt,
       body-within (c .args .line .now) _ _ _ _ (first .parts) (second .parts) (first .joins) (second .joins),
@@ -22,8 +21,7 @@ pub returns-in-None-cut : need.returns-in-None-cut
 returns-in-None-cut c =
     let first = c .in-Continue-address .ensures tt in
     let second = c .in-Continue-mark .ensures tt in
-    let third = c .in-Some .ensures tt in
-    (
+    let third = c .in-Some .ensures tt in (
       with-check (c .args .line .now) _ _ _ _ (first .parts) (second .parts) (first .joins) (second .joins) _ _ (third .parts) (third .joins) (side-of (c .args .side)) (c .in-None-cut .ensures tt .parts),
       check-sums (c .args .line .now) _ _ _ _ (first .parts) (second .parts) (first .joins) (second .joins) _ _ (third .parts) (third .joins),
       body-within (c .args .line .now) _ _ _ _ (first .parts) (second .parts) (first .joins) (second .joins),

@@ -1,0 +1,5 @@
+pub mod Cutting
+pub mod Fitting
+pub mod InOrder
+pub mod Kept
+mod Pumping

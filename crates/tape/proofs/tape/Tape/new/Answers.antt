@@ -1,0 +1,6 @@
+use borrow.Author.Needs.{needs}
+use Rattle.std.proofs.shelf.Lists.{take-all}
+use Rattle.tape.proofs.tape.Tape.new.Needs as need
+
+pub returns : need.returns
+returns c = search (needs, take-all)

@@ -1,0 +1,13 @@
+// A writer: it holds the caller's buffer, at whose front a line is put together.
+ghost use Prim.Native.Nat.{_+_, _<_, _≤_};
+ghost use lib.ListN.{length};
+ghost use denote.Ref.{now as behind};
+
+// `len` bytes of a line are written, none if no line is open. There is always room for the slash and the two digits that close it.
+#[derive(Drop)]
+pub struct Writer<'a> {
+    pub(crate) out: &'a mut [u8],
+    pub(crate) len: usize,
+    ghost ready: { (0 < len → len + 3 ≤ length (behind out)) },
+    ghost short: { len + 3 ≤ 1024 },
+}

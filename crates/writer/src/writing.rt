@@ -1,0 +1,104 @@
+// The calls of a writer: begin a line, add fields to it, close it with its check.
+ghost use mathlib.Core.Path.{_≡_};
+ghost use mathlib.Core.List.{List, [], _∷_, _++_};
+ghost use Prim.Native.Nat.{ℕ, _+_, _<_, _≤_};
+ghost use lib.ListN.{length};
+ghost use denote.Ref.{name};
+ghost use Rattle.std.specs.declared.result.Result.the-variants.{Ok, Err};
+ghost use Rattle.escape.specs.Spelling.{spelled, spelling};
+ghost use Rattle.line.specs.Lines.{Message};
+ghost use Rattle.line.specs.Meanings.{side-of};
+ghost use Rattle.writer.specs.Canonical.{closed};
+ghost use Rattle.writer.specs.Writing.{Lies, Opened, Closed, begun, with-field, refusal, begin-fault, add-fault};
+use crate::page::Writer;
+use crate::spelled::spelled_within;
+use line::Fault;
+use line::LINE_MAX;
+use line::Side;
+use line::address_in;
+use line::check_sum;
+use line::is_first_field;
+use line::is_mark;
+
+// The slash, and the two digits of the check.
+const CHECK_LEN: usize = 3;
+
+impl<'a> Writer<'a> {
+    // A writer over the buffer, with no line open.
+    pub fn over(out: &'a mut [u8]) -> Writer<'a>
+        ensures none { λ r. ⌜ r .len ≡ 0 ⌝ }
+        ensures kept { λ r. ⌜ now (r .out) ≡ now (out .entry) ⌝ }
+        ensures lender { λ r. ⌜ name (r .out) ≡ name (out .entry) ⌝ }
+    {
+        Writer { out, len: 0 }
+    }
+
+    fn push(&mut self, b: u8)
+        requires { ⌜ now self .len + 4 ≤ length (now (now self .out)) ⌝ ∗ ⌜ now self .len + 4 ≤ 1024 ⌝ }
+        ensures len { λ _. ⌜ now (self .exit) .len ≡ now (self .entry) .len + 1 ⌝ }
+        ensures room { λ _. ⌜ length (now (now (self .exit) .out)) ≡ length (now (now (self .entry) .out)) ⌝ }
+        ensures lies { λ _. ⌜ ((was l : List ℕ) → Lies was l (now (now (self .entry) .out)) (now (self .entry) .len) → Lies was (l ++ (b ∷ [])) (now (now (self .exit) .out)) (now (self .exit) .len)) ⌝ }
+        ensures lender { λ _. ⌜ name (now (self .exit) .out) ≡ name (now (self .entry) .out) ⌝ }
+    {
+        let at = self.len;
+        self.out[at] = b;
+        self.len = at + 1;
+    }
+
+    fn push_all(&mut self, bytes: &[u8])
+        requires { ⌜ now self .len + length (now bytes) + 3 ≤ length (now (now self .out)) ⌝ ∗ ⌜ now self .len + length (now bytes) + 3 ≤ 1024 ⌝ }
+        ensures len { λ _. ⌜ now (self .exit) .len ≡ now (self .entry) .len + length (now (bytes .entry)) ⌝ }
+        ensures room { λ _. ⌜ length (now (now (self .exit) .out)) ≡ length (now (now (self .entry) .out)) ⌝ }
+        ensures lies { λ _. ⌜ ((was l : List ℕ) → Lies was l (now (now (self .entry) .out)) (now (self .entry) .len) → Lies was (l ++ now (bytes .entry)) (now (now (self .exit) .out)) (now (self .exit) .len)) ⌝ }
+        ensures lender { λ _. ⌜ name (now (self .exit) .out) ≡ name (now (self .entry) .out) ⌝ }
+    {
+        for b in bytes {
+            self.push(*b);
+        }
+    }
+
+    fn push_spelled(&mut self, b: u8)
+        requires { ⌜ now self .len + length (spelled b) + 3 ≤ length (now (now self .out)) ⌝ ∗ ⌜ now self .len + length (spelled b) + 3 ≤ 1024 ⌝ }
+        ensures len { λ _. ⌜ now (self .exit) .len ≡ now (self .entry) .len + length (spelled b) ⌝ }
+        ensures room { λ _. ⌜ length (now (now (self .exit) .out)) ≡ length (now (now (self .entry) .out)) ⌝ }
+        ensures lies { λ _. ⌜ ((was l : List ℕ) → Lies was l (now (now (self .entry) .out)) (now (self .entry) .len) → Lies was (l ++ spelled b) (now (now (self .exit) .out)) (now (self .exit) .len)) ⌝ }
+        ensures lender { λ _. ⌜ name (now (self .exit) .out) ≡ name (now (self .entry) .out) ⌝ }
+    {
+        match b {
+            b':' | b'/' | b'\\' => self.push_all(&[b'\\', b]),
+            b'\n' => self.push_all(b"\\n"),
+            b'\r' => self.push_all(b"\\r"),
+            b'\t' => self.push_all(b"\\t"),
+            b' '..=b'~' => self.push(b),
+            _ => self.push_all(&[b'\\', b'd', b'0' + b / 100, b'0' + b / 10 % 10, b'0' + b % 10]),
+        }
+    }
+
+    fn push_field(&mut self, field: &[u8])
+        requires { ⌜ now self .len + length (spelling (now field)) + 3 ≤ length (now (now self .out)) ⌝ ∗ ⌜ now self .len + length (spelling (now field)) + 3 ≤ 1024 ⌝ }
+        ensures len { λ _. ⌜ now (self .exit) .len ≡ now (self .entry) .len + length (spelling (now (field .entry))) ⌝ }
+        ensures room { λ _. ⌜ length (now (now (self .exit) .out)) ≡ length (now (now (self .entry) .out)) ⌝ }
+        ensures lies { λ _. ⌜ ((was l : List ℕ) → Lies was l (now (now (self .entry) .out)) (now (self .entry) .len) → Lies was (l ++ spelling (now (field .entry))) (now (now (self .exit) .out)) (now (self .exit) .len)) ⌝ }
+        ensures lender { λ _. ⌜ name (now (self .exit) .out) ≡ name (now (self .entry) .out) ⌝ }
+    {
+        for b in field {
+            self.push_spelled(*b);
+        }
+    }
+}
+
+// Closes the line of `len` bytes at the buffer's front, if there is one, and answers how long it is then.
+fn end(out: &mut [u8], len: usize) -> usize
+    requires { ⌜ (0 < len → len + 3 ≤ length (now out)) ⌝ }
+    ensures lies { λ r. ⌜ ((was l : List ℕ) → 0 < len → Lies was l (now (out .entry)) len → Lies was (closed l) (now (out .exit)) r) ⌝ }
+    ensures none { λ r. ⌜ (len ≡ 0 → (r ≡ 0) × (now (out .exit) ≡ now (out .entry))) ⌝ }
+{
+    if len == 0 {
+        return 0;
+    }
+    out[len] = b'/';
+    let check = check_sum(&out[0..len + 1]);
+    out[len + 1] = b'0' + check / 10;
+    out[len + 2] = b'0' + check % 10;
+    len + CHECK_LEN
+}
