@@ -1,3 +1,4 @@
 pub mod Lawful
 pub mod Texts
 pub mod Numerals
+pub mod Listings

@@ -10,7 +10,7 @@ use Rattle.std.specs.shelf.Maps.{nth}
 use Rattle.std.specs.declared.option.Option.{Option}
 use Rattle.std.specs.declared.option.Option.the-variants.{Some, None}
 use Rattle.escape.specs.Tokens.{digit}
-use Rattle.line.specs.Forms.{Side, command, answer, every, if-some}
+use Rattle.line.specs.Forms.{Side, command, answer, every}
 use Rattle.line.specs.Lines.{Message}
 
 abbrev pub same-bytes : List ℕ → List ℕ → Bool
@@ -55,21 +55,21 @@ abbrev pub okay : Message → Bool
 okay m = is-text (codes "000") (nth (m .fields) 0)
 
 -- the name behind the status, where at least three fields follow it
+abbrev pub if-there : Option (List ℕ) → Option (List ℕ) → Option (List ℕ)
+if-there None name = None
+if-there (Some third) name = name
+
 abbrev pub name-in : List (List ℕ) → Option (List ℕ)
 name-in fields = if-there (nth fields 4) (nth fields 1)
-  where
-    if-there : Option (List ℕ) → Option (List ℕ) → Option (List ℕ)
-    if-there None name = None
-    if-there (Some third) name = name
 
 -- an overview: the third field after the name says how many result lines follow
 abbrev pub overview : Message → Option ℕ
 overview m = cond (is-text (codes "BROWSE_RESULTS_OVERVIEW") (name-in (m .fields))) (number-in (nth (m .fields) 4)) None
 
 -- a result line: the first two fields after the name are numbers, of which the first counts the lines from 1
+abbrev pub first-of-both : Option ℕ → Option ℕ → Option ℕ
+first-of-both first None = None
+first-of-both first (Some second) = first
+
 abbrev pub result : Message → Option ℕ
-result m = cond (is-text (codes "BROWSE_RESULT") (name-in (m .fields))) (both-in (number-in (nth (m .fields) 2)) (number-in (nth (m .fields) 3))) None
-  where
-    both-in : Option ℕ → Option ℕ → Option ℕ
-    both-in None second = None
-    both-in (Some count) second = if-some second count
+result m = cond (is-text (codes "BROWSE_RESULT") (name-in (m .fields))) (first-of-both (number-in (nth (m .fields) 2)) (number-in (nth (m .fields) 3))) None

@@ -2,3 +2,4 @@
 pub mod Browse
 pub mod Ours
 pub mod Steps
+pub mod Meanings

@@ -3,9 +3,15 @@
 ghost use Rattle.life.specs.Codec.{Lawful};
 ghost use Rattle.numbers.specs.Ours.{ours};
 
+mod listing;
 mod numeral;
 mod text;
 
+pub use listing::Place;
+pub use listing::Step;
+pub use listing::overview;
+pub use listing::result;
+pub use listing::next_step;
 pub use numeral::number_of;
 pub use text::same_bytes;
 
