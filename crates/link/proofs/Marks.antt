@@ -1,22 +1,17 @@
--- The kind that a reading is told as fits it, since what is read as an answer has one of its marks.
-use mathlib.Core.Path.{_≡_, refl, sym, ap, _∙_}
+-- What is read as an answer has one of its marks.
+use mathlib.Core.Path.{_≡_, refl, sym, subst}
 use mathlib.Core.Bool.{Bool, true, false, cond}
 use mathlib.Core.List.{List, [], _∷_}
-use Prim.Native.Nat.{ℕ, _+_, _-_, _<_, _≤_}
+use Prim.Native.Nat.{ℕ}
 use native.Mathlib.Omega.{arith}
-use lib.Dec.{eqb, leb}
+use lib.Dec.{leb}
 use lib.ListN.{length}
-use Rattle.std.proofs.shelf.Tests.{eqb-true, leb-true, eqb-false}
 use Rattle.std.specs.declared.option.Option.{Option}
 use Rattle.std.specs.declared.option.Option.the-variants.{Some, None}
 use Rattle.escape.specs.Tokens.{tokens, first-broken, parts}
 use Rattle.line.specs.Forms.{answer, Address, address-of, mark-of, is-mark, is-first-field}
 use Rattle.line.specs.Lines.{Message, Read, meant, faulty, Parts, fields-of, body-place, mark-place, check-place, first-invisible, parted, unless-at, or-fault, unless-number, check-fault, body-read, parts-read}
-use Rattle.reader.specs.Cutting.{Part}
-use Rattle.link.specs.Lines.{as-answer, read-part}
-use Rattle.link.specs.Calls.{Kind, notice, stray}
-use Rattle.link.specs.Promises.{Fits, of-fault, of-event, of-notice, of-stray}
-use Rattle.link.specs.States.{State, kind-for, Hands}
+use Rattle.numbers.specs.Ours.{as-answer}
 
 -- the mark of what was read, if it is a message, is one of an answer
 abbrev Marked : Read → Type 0
@@ -69,30 +64,5 @@ marked line =
     (marked-or (parted answer (parts 47 line)) 4 (length line) _ (λ p e. marked-parts p _))))
     tt
 
--- ---- kinds
-marks : (m : Message) → is-mark answer (m .mark) ≡ true → Fits (kind-for (meant m)) (meant m)
-marks m is = by-event (eqb (m .mark) 33) refl
-  where
-    -- neither ! nor ?
-    a-digit : (v w : Bool) → leb 48 (m .mark) ≡ v → leb (m .mark) 57 ≡ w → eqb (m .mark) 33 ≡ false → eqb (m .mark) 63 ≡ false → Fits stray (meant m)
-    a-digit true true d e f g = let x = leb-true 48 (m .mark) d in let y = leb-true (m .mark) 57 e in of-stray m (m .mark - 48) (omega arith) (omega arith)
-    a-digit true false d e f g = let z : false ≡ true = rw (d, e, f, g) at is in let z : _≡_ {A = ℕ} 0 1 = cc in absurd (omega arith)
-    a-digit false w d e f g = let z : false ≡ true = rw (d, f, g) at is in let z : _≡_ {A = ℕ} 0 1 = cc in absurd (omega arith)
-
-    by-notice : (v : Bool) → eqb (m .mark) 63 ≡ v → eqb (m .mark) 33 ≡ false → Fits (cond (eqb (m .mark) 63) notice stray) (meant m)
-    by-notice true e f = rw e (of-notice m (eqb-true (m .mark) 63 e))
-    by-notice false e f = rw e (a-digit (leb 48 (m .mark)) (leb (m .mark) 57) refl refl f e)
-
-    by-event : (v : Bool) → eqb (m .mark) 33 ≡ v → Fits (kind-for (meant m)) (meant m)
-    by-event true e = rw e (of-event m (eqb-true (m .mark) 33 e))
-    by-event false e = rw e (by-notice (eqb (m .mark) 63) refl e)
-
-fits : (r : Read) → Marked r → Fits (kind-for r) r
-fits (faulty number place) is = of-fault number place
-fits (meant m) is = marks m is
-
-part-marked : (p : Part) → Marked (read-part p)
-part-marked p = marked-cond (p .over) (faulty 1 1024) (as-answer (p .kept)) tt (marked (p .kept))
-
-pub hands-fit : (s : State) (k : Kind) (l : List ℕ) (r : Read) (t : State) → Hands s k l r t → Fits k r
-hands-fit s k l r t h = rw (h .kind, h .read) (fits (read-part (h .held)) (part-marked (h .held)))
+pub message-marked : (line : List ℕ) (m : Message) → meant m ≡ as-answer line → is-mark answer (m .mark) ≡ true
+message-marked line m e = subst Marked (sym e) (marked line)

@@ -1,6 +1,6 @@
 use borrow.Author.Needs.{needs}
-use Rattle.link.specs.Lines.{as-answer}
-use Rattle.link.proofs.pumped.read_answer.Needs as need
+use Rattle.numbers.specs.Ours.{as-answer}
+use Rattle.link.proofs.telling.read_answer.Needs as need
 
 pub returns : need.returns
 unfolding as-answer
