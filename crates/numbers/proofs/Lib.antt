@@ -3,3 +3,4 @@ pub mod Texts
 pub mod Numerals
 pub mod Listings
 pub mod Kept
+pub mod Standing

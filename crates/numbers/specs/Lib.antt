@@ -5,3 +5,4 @@ pub mod Steps
 pub mod Meanings
 pub mod Addresses
 pub mod Slots
+pub mod Ten

@@ -7,6 +7,7 @@ mod address;
 mod listing;
 mod numeral;
 mod slot;
+mod ten;
 mod text;
 
 pub use address::CommandAddress;
@@ -23,6 +24,7 @@ pub use slot::Match;
 pub use slot::Outcome;
 pub use slot::Pending;
 pub use slot::Slot;
+pub use ten::Numbers;
 pub use text::same_bytes;
 
 // Lines are read and written as the promises need it.
