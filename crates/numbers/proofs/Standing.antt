@@ -119,11 +119,18 @@ module _ (l : List Held) (n k : ℕ) (x : Held) (e : k ≡ n) (lt : k < length l
       let put : Put (standing l) n (settles (standing l n) .1) (standing (set l k y)) = subst (λ (z : Slot). Put (standing l) n z (standing (set l k y))) (ap (λ (p : Outcome × Slot). p .1) whole) (put-at l n k y e lt few) in
       subst (Settles (standing l) n (standing (set l k y))) (sym (ap (λ (p : Outcome × Slot). p .0) whole)) (settles-by (standing l) (standing (set l k y)) n put)
 
-  pub told-at : (m : Message) → m .mark ≡ 48 + n → n < 10 → (y : Held) (t : Kind) → (t, slot-of y) ≡ tells n (slot-of x) m → Told ours (standing l) (standing (set l k y)) (meant m) t
-  told-at m mark small y t is =
-      let whole : (t, slot-of y) ≡ tells n (standing l n) m = is ∙ ap (λ (z : Slot). tells n z m) read-is in
-      let put : Put (standing l) n (tells n (standing l n) m .1) (standing (set l k y)) = subst (λ (z : Slot). Put (standing l) n z (standing (set l k y))) (ap (λ (p : Kind × Slot). p .1) whole) (put-at l n k y e lt few) in
-      subst (Told ours (standing l) (standing (set l k y)) (meant m)) (sym (ap (λ (p : Kind × Slot). p .0) whole)) (told-by (standing l) (standing (set l k y)) n m mark small put)
+  module _ (m : Message) (y : Held) (t : Kind) (is : (t, slot-of y) ≡ tells n (slot-of x) m) where
+    whole : (t, slot-of y) ≡ tells n (standing l n) m
+    whole = is ∙ ap (λ (z : Slot). tells n z m) read-is
+
+    pub told-put : Put (standing l) n (tells n (standing l n) m .1) (standing (set l k y))
+    told-put = subst (λ (z : Slot). Put (standing l) n z (standing (set l k y))) (ap (λ (p : Kind × Slot). p .1) whole) (put-at l n k y e lt few)
+
+    pub told-kind : t ≡ tells n (standing l n) m .0
+    told-kind = ap (λ (p : Kind × Slot). p .0) whole
+
+    pub told-at : m .mark ≡ 48 + n → n < 10 → Told ours (standing l) (standing (set l k y)) (meant m) t
+    told-at mark small = subst (Told ours (standing l) (standing (set l k y)) (meant m)) (sym told-kind) (told-by (standing l) (standing (set l k y)) n m mark small told-put)
 
 -- ---- the search for a free number
 is-free-is : (x : Slot) → true ≡ is-free-slot x → x ≡ is-free

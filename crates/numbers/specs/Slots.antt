@@ -5,13 +5,14 @@ use Rattle.std.specs.Options.{mapped}
 use Rattle.std.specs.declared.option.Option.{Option}
 use Rattle.std.specs.declared.option.Option.the-variants.{Some, None}
 use Rattle.line.specs.Lines.{Message}
-use Rattle.life.specs.Answers.{not-next, final, onward, next}
+use Rattle.life.specs.Answers.{start, not-next, final, onward, next}
 use Rattle.life.specs.Answers.{Step as Stepped}
 use Rattle.life.specs.Calls.{Kind, stray, misplaced, more, last, late, late-last, answered, given-up, lost, foreign}
 use Rattle.life.specs.Calls.{Outcome as Settling}
 use Rattle.life.specs.Link.{is-free, is-open, is-answered, is-lost, is-given-up, advanced}
 use Rattle.life.specs.Link.{Slot as Standing, Pending as Waiting}
-use Rattle.numbers.specs.Addresses.{address-of}
+use Rattle.numbers.specs.Addresses.{address-of, keepable}
+use Rattle.numbers.specs.Browse.{is-browse}
 use Rattle.numbers.specs.Ours.{ours}
 use Rattle.numbers.specs.Meanings.{place-of, step-of}
 use Rattle.numbers.specs.declared.listing.Step.{Step}
@@ -55,6 +56,10 @@ is-free-slot (is-open p) = false
 is-free-slot is-answered = false
 is-free-slot is-lost = false
 is-free-slot (is-given-up p) = false
+
+-- ---- submit: the command just sent, if its address can be kept
+abbrev pub begins : Message → Option Waiting
+begins m = mapped (λ a. record { address = a; browse = is-browse m; place = start }) (keepable (m .address))
 
 -- ---- settle: what it answers, and how the number stands afterwards
 abbrev pub settles : Standing → Settling × Standing

@@ -18,6 +18,7 @@ pub use listing::Place;
 pub use listing::Step;
 pub use listing::overview;
 pub use listing::result;
+pub use listing::is_browse;
 pub use listing::next_step;
 pub use numeral::number_of;
 pub use slot::Match;

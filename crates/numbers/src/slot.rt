@@ -1,14 +1,17 @@
 // One of the ten numbers: how it stands, and what each call makes of it.
 ghost use mathlib.Core.Path.{_≡_};
 ghost use Prim.Native.Nat.{ℕ};
+ghost use Rattle.std.specs.Options.{mapped};
 ghost use Rattle.line.specs.Meanings.{message-of, placed};
 ghost use Rattle.life.specs.Link.{is-open, is-given-up, advanced, after-reset, one-if-open};
-ghost use Rattle.numbers.specs.Slots.{slot-of, pending-of, outcome-of, kind-of, settles, tells, tells-pending, stepped, is-free-slot};
+ghost use Rattle.numbers.specs.Slots.{begins, slot-of, pending-of, outcome-of, kind-of, settles, tells, tells-pending, stepped, is-free-slot};
 ghost use Rattle.numbers.specs.Meanings.{place-of};
 use crate::address::CommandAddress;
+use crate::address::kept_address;
 use crate::address::same_address;
 use crate::listing::Place;
 use crate::listing::Step;
+use crate::listing::is_browse;
 use crate::listing::next_step;
 use line::Address;
 use line::Message;
@@ -59,6 +62,14 @@ fn address_in<'a>(message: &Message<'a>) -> Address<'a>
 }
 
 impl Pending {
+    // The command just sent; none if its device has not as many bytes as a command's has.
+    pub fn begun(message: &Message<'_>) -> Option<Pending>
+        ensures { λ r. ⌜ mapped pending-of r ≡ begins (message-of (now (message .entry))) ⌝ }
+    {
+        let address = kept_address(&address_in(message))?;
+        Some(Pending { address, browse: is_browse(message), place: Place::Start })
+    }
+
     // What a line is in the answer to the command; none if the line has another address.
     fn step(&self, message: &Message<'_>) -> Option<Step>
         ensures { λ r. ⌜ stepped r ≡ tells-pending (pending-of (now (self .entry))) (message-of (now (message .entry))) ⌝ }

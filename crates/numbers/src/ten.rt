@@ -6,7 +6,7 @@ ghost use Rattle.line.specs.Lines.{meant};
 ghost use Rattle.line.specs.Meanings.{message-of};
 ghost use Rattle.life.specs.Link.{is-free, is-open, Put, First-free, Settles, Told, after-reset, count-open};
 ghost use Rattle.numbers.specs.Ours.{ours};
-ghost use Rattle.numbers.specs.Slots.{pending-of, outcome-of, kind-of};
+ghost use Rattle.numbers.specs.Slots.{pending-of, outcome-of, kind-of, tells};
 ghost use Rattle.numbers.specs.Ten.{slots-of};
 use crate::slot::Match;
 use crate::slot::Outcome;
@@ -72,7 +72,9 @@ impl Numbers {
 
     // What is told of an answer line with the number n.
     pub fn told(&mut self, n: u8, message: &Message<'_>) -> Match
-        ensures slots { λ r. ⌜ (message-of (now (message .entry)) .mark ≡ 48 + n → n < 10 → Told ours (slots-of (now (self .entry))) (slots-of (now (self .exit))) (meant (message-of (now (message .entry)))) (kind-of n r)) ⌝ }
+        ensures slots { λ _. ⌜ (n < 10 → Put (slots-of (now (self .entry))) n (tells n (slots-of (now (self .entry)) n) (message-of (now (message .entry))) .1) (slots-of (now (self .exit)))) ⌝ }
+        ensures kind { λ r. ⌜ kind-of n r ≡ tells n (slots-of (now (self .entry)) n) (message-of (now (message .entry))) .0 ⌝ }
+        ensures life { λ r. ⌜ (message-of (now (message .entry)) .mark ≡ 48 + n → n < 10 → Told ours (slots-of (now (self .entry))) (slots-of (now (self .exit))) (meant (message-of (now (message .entry)))) (kind-of n r)) ⌝ }
         ensures beyond { λ _. ⌜ (10 ≤ n → now (self .exit) ≡ now (self .entry)) ⌝ }
         ensures recent { λ _. ⌜ now (self .exit) .recent ≡ now (self .entry) .recent ⌝ }
     {
