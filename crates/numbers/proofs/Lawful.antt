@@ -25,7 +25,7 @@ use Rattle.numbers.specs.Ours.{all-bytes, sendable-command, ours}
 never : {X : Type 0} (n p : ℕ) (m : Message) → faulty n p ≡ meant m → X
 never n p m e = let z : _≡_ {A = ℕ} 0 1 = cc in absurd (omega arith)
 
-both : (p q : Bool) → cond p q false ≡ true → (p ≡ true) × (q ≡ true)
+pub both : (p q : Bool) → cond p q false ≡ true → (p ≡ true) × (q ≡ true)
 both true q e = (refl, e)
 both false q e = let z : _≡_ {A = ℕ} 0 1 = cc in absurd (omega arith)
 
@@ -97,7 +97,7 @@ bytes-all : (fs : List (List ℕ)) → all-bytes fs ≡ true → Bytes fs
 bytes-all [] e = tt
 bytes-all (f ∷ fs) e = let p = both (every (λ b. ltb b 256) f) (all-bytes fs) e in (bytes-in f (p .0), bytes-all fs (p .1))
 
-side-is : (s : Side) → is-command s ≡ true → s ≡ command
+pub side-is : (s : Side) → is-command s ≡ true → s ≡ command
 side-is command e = refl
 side-is answer e = let z : _≡_ {A = ℕ} 0 1 = cc in absurd (omega arith)
 

@@ -3,3 +3,6 @@ pub mod Browse
 pub mod Ours
 pub mod Steps
 pub mod Meanings
+pub mod Addresses
+pub mod Slots
+pub mod Ten

@@ -3,16 +3,29 @@
 ghost use Rattle.life.specs.Codec.{Lawful};
 ghost use Rattle.numbers.specs.Ours.{ours};
 
+mod address;
 mod listing;
 mod numeral;
+mod slot;
+mod ten;
 mod text;
 
+pub use address::CommandAddress;
+pub use address::Device;
+pub use address::kept_address;
+pub use address::same_address;
 pub use listing::Place;
 pub use listing::Step;
 pub use listing::overview;
 pub use listing::result;
+pub use listing::is_browse;
 pub use listing::next_step;
 pub use numeral::number_of;
+pub use slot::Match;
+pub use slot::Outcome;
+pub use slot::Pending;
+pub use slot::Slot;
+pub use ten::Numbers;
 pub use text::same_bytes;
 
 // Lines are read and written as the promises need it.

@@ -5,7 +5,7 @@ ghost use lib.ListN.{length};
 ghost use Rattle.std.specs.shelf.Maps.{nth};
 ghost use Rattle.line.specs.Meanings.{message-of};
 ghost use Rattle.life.specs.Answers.{next};
-ghost use Rattle.numbers.specs.Browse.{is-text, number-in, okay as is-okay, name-in, overview as overview-in, result as result-in};
+ghost use Rattle.numbers.specs.Browse.{is-browse, is-text, number-in, okay as is-okay, name-in, overview as overview-in, result as result-in};
 ghost use Rattle.numbers.specs.Ours.{ours};
 ghost use Rattle.numbers.specs.Meanings.{place-of, step-of, first-step as step-at-start, result-step as step-within};
 use crate::numeral::number_of;
@@ -36,6 +36,16 @@ fn okay(message: &Message<'_>) -> bool
     match message.raw_field(0) {
         Some(status) => same_bytes(status, b"000"),
         None => false,
+    }
+}
+
+// Whether the message is a command named BROWSE.
+pub fn is_browse(message: &Message<'_>) -> bool
+    ensures { λ r. ⌜ r ≡ is-browse (message-of (now (message .entry))) ⌝ }
+{
+    match (message, message.raw_field(0)) {
+        (Message::Command { .. }, Some(name)) => same_bytes(name, b"BROWSE"),
+        _ => false,
     }
 }
 
