@@ -20,7 +20,7 @@ use Rattle.writer.specs.Laws.{Bytes}
 use Rattle.writer.proofs.Backs.{reads-back}
 use Rattle.life.specs.Codec.{Codec, Plain, Lawful, no-ends}
 use Rattle.numbers.specs.Browse.{is-command}
-use Rattle.numbers.specs.Ours.{all-bytes, sendable-command, ours}
+use Rattle.numbers.specs.Ours.{all-bytes, sendable-command, as-answer, ours}
 
 never : {X : Type 0} (n p : ℕ) (m : Message) → faulty n p ≡ meant m → X
 never n p m e = let z : _≡_ {A = ℕ} 0 1 = cc in absurd (omega arith)
@@ -108,6 +108,7 @@ command-reads m e =
     ap (λ (s : Side). reading s (canonical m)) (sym (side-is (m .side) (p .0))) ∙ reads-back m (q .1) (bytes-all (m .fields) (q .0))
 
 pub lawful : Lawful ours
+unfolding as-answer
 lawful = record {
   too-long = λ l lt. rw (lt-leb (length l) 1024 lt);
   answer-plain = read-plain answer;

@@ -9,7 +9,7 @@ use native.Mathlib.Omega.{arith}
 use lib.Dec.{ltb}
 use lib.ListN.{length, getD, set}
 use lib.Seq.{getD-set-same, getD-set-other}
-use Rattle.std.proofs.shelf.Lists.{getD-past, getD-default}
+use Rattle.std.proofs.shelf.Lists.{set-getD, getD-past, getD-default}
 use Rattle.std.proofs.shelf.Tests.{cases-eq, cases-lt, lt-ltb, le-ltb}
 use Rattle.std.specs.declared.option.Option.{Option}
 use Rattle.std.specs.declared.option.Option.the-variants.{Some, None}
@@ -19,8 +19,11 @@ use Rattle.life.specs.Calls.{Kind, Outcome}
 use Rattle.life.specs.Link.{Pending, Slot, is-free, is-open, is-answered, is-lost, is-given-up, Same, Put, First-free, after-reset, one-if-open, count-open, Waits, when-open, when-given-up, Idle, Settles, was-answered, was-lost, was-open, not-held, Told, told-unknown, told-elsewhere, told-misplaced, told-more, told-last, told-late, told-late-last}
 use Rattle.numbers.specs.Ours.{ours}
 use Rattle.numbers.specs.declared.slot.Slot.{Slot as Held}
+use Rattle.numbers.specs.declared.slot.Outcome.{Outcome as Answer}
+use Rattle.numbers.specs.declared.slot.Outcome.the-variants.{Answered, GivenUp, Lost, Foreign}
+use Rattle.numbers.specs.declared.ten.Numbers.{Numbers}
 use Rattle.numbers.specs.declared.slot.Slot.the-variants.{Free}
-use Rattle.numbers.specs.Slots.{slot-of, is-free-slot, settles, tells, tells-pending, tells-open, tells-late}
+use Rattle.numbers.specs.Slots.{slot-of, If-foreign, is-free-slot, settles, tells, tells-pending, tells-open, tells-late}
 
 -- a number that stands as before
 put-same : (b a : ℕ → Slot) (n : ℕ) → Put b n (b n) a → Same b a
@@ -216,3 +219,14 @@ reset-ended k l i c le ge r = let ten : i ≡ 10 = omega arith in (r .counted �
     go : (n : ℕ) → (n < 10) ⊎ (10 ≤ n) → standing l n ≡ after-reset (standing k n)
     go n (inl lt) = r .done n (omega arith)
     go n (inr h) = past-free l n h ∙ ap after-reset (sym (past-free k n h))
+
+-- what was read, written again
+written-again : (l : List Held) (k : ℕ) (x y : Held) → x ≡ getD l k x → y ≡ x → set l k y ≡ l
+written-again l k x y read e = rw (e, read) (set-getD l k x)
+
+pub foreign-kept : (o : Answer) (l : List Held) (k : ℕ) (x y : Held) (recent : ℕ) → x ≡ getD l k x → If-foreign o (y ≡ x)
+    → If-foreign o (_≡_ {A = Numbers} (record { slots = set l k y; recent = recent }) (record { slots = l; recent = recent }))
+foreign-kept Answered l k x y recent read e = tt
+foreign-kept GivenUp l k x y recent read e = tt
+foreign-kept Lost l k x y recent read e = tt
+foreign-kept Foreign l k x y recent read e = ap (λ (z : List Held). record { slots = z; recent = recent }) (written-again l k x y read e)

@@ -6,7 +6,7 @@ use lib.Dec.{ltb, eqb}
 use Rattle.std.specs.declared.option.Option.{Option}
 use Rattle.std.specs.declared.option.Option.the-variants.{Some, None}
 use Rattle.line.specs.Forms.{command, answer, Address, every}
-use Rattle.line.specs.Lines.{Message, reading}
+use Rattle.line.specs.Lines.{Message, Read, reading}
 use Rattle.writer.specs.Canonical.{canonical, sendable}
 use Rattle.life.specs.Codec.{Codec}
 use Rattle.numbers.specs.Browse.{same-bytes, is-command, is-browse, okay, overview, result}
@@ -29,9 +29,14 @@ same-zone (Some y) (Some z) = eqb y z
 abbrev pub same-address : Address → Address → Bool
 same-address a b = cond (same-bytes (a .device) (b .device)) (same-zone (a .zone) (b .zone)) false
 
+-- what comes from a player is read as an answer
+-- Shut, since a link needs no more of the rules of reading than their outcome.
+unfoldable pub as-answer : List ℕ → Read
+as-answer l = reading answer l
+
 abbrev pub ours : Codec
 ours = record {
-  as-answer = reading answer;
+  as-answer = as-answer;
   as-command = reading command;
   canonical = canonical;
   sendable = sendable-command;

@@ -41,6 +41,13 @@ outcome-of GivenUpOutcome = given-up
 outcome-of LostOutcome = lost
 outcome-of Foreign = foreign
 
+-- the fact, where settle answers foreign
+abbrev pub If-foreign : Outcome → Type 0 → Type 0
+If-foreign AnsweredOutcome P = Unit {0}
+If-foreign GivenUpOutcome P = Unit {0}
+If-foreign LostOutcome P = Unit {0}
+If-foreign Foreign P = P
+
 -- the kind that is told of a line with the number n
 abbrev pub kind-of : ℕ → Match → Kind
 kind-of n Stray = stray

@@ -4,7 +4,7 @@ ghost use Prim.Native.Nat.{ℕ};
 ghost use Rattle.std.specs.Options.{mapped};
 ghost use Rattle.line.specs.Meanings.{message-of, placed};
 ghost use Rattle.life.specs.Link.{is-open, is-given-up, advanced, after-reset, one-if-open};
-ghost use Rattle.numbers.specs.Slots.{begins, slot-of, pending-of, outcome-of, kind-of, settles, tells, tells-pending, stepped, is-free-slot};
+ghost use Rattle.numbers.specs.Slots.{begins, slot-of, pending-of, outcome-of, If-foreign, kind-of, settles, tells, tells-pending, stepped, is-free-slot};
 ghost use Rattle.numbers.specs.Meanings.{place-of};
 use crate::address::CommandAddress;
 use crate::address::kept_address;
@@ -144,7 +144,8 @@ impl Slot {
 
     // After its ticket is settled, and what settle answers.
     pub fn settled(self) -> (Outcome, Slot)
-        ensures { λ r. ⌜ (outcome-of (r .0), slot-of (r .1)) ≡ settles (slot-of self) ⌝ }
+        ensures stands { λ r. ⌜ (outcome-of (r .0), slot-of (r .1)) ≡ settles (slot-of self) ⌝ }
+        ensures foreign { λ r. ⌜ If-foreign (r .0) (r .1 ≡ self) ⌝ }
     {
         match self {
             Slot::Free => (Outcome::Foreign, Slot::Free),

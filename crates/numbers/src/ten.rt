@@ -6,7 +6,7 @@ ghost use Rattle.line.specs.Lines.{meant};
 ghost use Rattle.line.specs.Meanings.{message-of};
 ghost use Rattle.life.specs.Link.{is-free, is-open, Put, First-free, Settles, Told, after-reset, count-open};
 ghost use Rattle.numbers.specs.Ours.{ours};
-ghost use Rattle.numbers.specs.Slots.{pending-of, outcome-of, kind-of, tells};
+ghost use Rattle.numbers.specs.Slots.{pending-of, outcome-of, If-foreign, kind-of, tells};
 ghost use Rattle.numbers.specs.Ten.{slots-of};
 use crate::slot::Match;
 use crate::slot::Outcome;
@@ -16,6 +16,7 @@ use line::Message;
 
 const TEN: usize = 10;
 
+#[derive(Drop)]
 pub struct Numbers {
     slots: [Slot; TEN],
     recent: u8,
@@ -60,6 +61,7 @@ impl Numbers {
     pub fn settle(&mut self, n: u8) -> Outcome
         ensures slots { λ r. ⌜ Settles (slots-of (now (self .entry))) n (slots-of (now (self .exit))) (outcome-of r) ⌝ }
         ensures recent { λ _. ⌜ now (self .exit) .recent ≡ now (self .entry) .recent ⌝ }
+        ensures foreign { λ r. ⌜ If-foreign r (now (self .exit) ≡ now (self .entry)) ⌝ }
     {
         let at = usize::from(n);
         if at >= TEN {

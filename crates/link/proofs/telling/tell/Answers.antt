@@ -17,6 +17,6 @@ pub returns : need.returns
 returns c = record {
   told = tells-numbered (message-of (c .args .message .now)) (slots-of (c .args .numbers .now)) (slots-of (c .told .last .self))
     (matched-kind (c .in-Some .number) (c .told .result)) (kind-of (c .kind-with-number .result)) (c .mark-in-mark .result) (c .in-Some .number) (c .number-in .result)
-    (c .mark-in-mark .ensures) (c .number-in .ensures) (c .in-Some .is) (c .told .ensures .slots) (c .kind-with-number .ensures);
+    (c .mark-in-mark .ensures) (c .number-in .ensures) (c .in-Some .is) (c .told .ensures .life) (c .kind-with-number .ensures);
   recent = c .told .ensures .recent;
 }
