@@ -57,7 +57,9 @@ fn address_in<'a>(message: &Message<'a>) -> Address<'a>
     ensures { λ r. ⌜ placed r ≡ message-of (now (message .entry)) .address ⌝ }
 {
     match message {
-        Message::Answer { address, .. } | Message::Event { address, .. } | Message::Command { address, .. } => *address,
+        Message::Answer { address, .. }
+        | Message::Event { address, .. }
+        | Message::Command { address, .. } => *address,
     }
 }
 
@@ -67,7 +69,11 @@ impl Pending {
         ensures { λ r. ⌜ mapped pending-of r ≡ begins (message-of (now (message .entry))) ⌝ }
     {
         let address = kept_address(&address_in(message))?;
-        Some(Pending { address, browse: is_browse(message), place: Place::Start })
+        Some(Pending {
+            address,
+            browse: is_browse(message),
+            place: Place::Start,
+        })
     }
 
     // What a line is in the answer to the command; none if the line has another address.
@@ -84,7 +90,11 @@ impl Pending {
     fn at(self, place: Place) -> Pending
         ensures { λ r. ⌜ pending-of r ≡ advanced (pending-of self) (place-of place) ⌝ }
     {
-        Pending { address: self.address, browse: self.browse, place }
+        Pending {
+            address: self.address,
+            browse: self.browse,
+            place,
+        }
     }
 }
 
