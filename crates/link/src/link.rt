@@ -1,15 +1,26 @@
 // The link itself.
 ghost use mathlib.Core.Path.{_≡_};
+ghost use lib.Dec.{leb};
+ghost use lib.ListN.{length};
 ghost use Rattle.link.specs.States.{made};
 ghost use Rattle.std.specs.declared.result.Result.the-variants.{Ok, Err};
 ghost use Rattle.link.specs.Meanings.{state as state-of, entry as entry-of, Pumps, Lives-on, Begins-life};
 use crate::core::Core;
 use crate::pumped::Pumped;
 use line::Fault;
+use line::LINE_MAX;
 use port::Port;
 use reader::Unfinished;
 use reader::next_line;
 
+// Whether every line that is handed out fits the buffer.
+fn takes_a_line(buffer: &[u8]) -> bool
+    ensures { λ r. ⌜ r ≡ leb 1024 (length (now (buffer .entry))) ⌝ }
+{
+    buffer.len() >= LINE_MAX
+}
+
+#[derive(Drop)]
 pub struct Link<P> {
     port: P,
     core: Core,
@@ -32,7 +43,7 @@ impl<P: Port> Link<P> {
     }
 
     pub fn number(&self) -> u16
-        ensures { λ r. ⌜ r ≡ now (self .entry) .core .number ⌝ }
+        ensures { λ r. ⌜ r ≡ state-of (P·Port .meaning (now (self .entry) .port)) (now (self .entry) .core) .link ⌝ }
     {
         self.core.number
     }
@@ -44,7 +55,7 @@ impl<P: Port> Link<P> {
         ensures refused { λ r. ⌜ elim r [ Ok p ↦ Unit {0} | Err f ↦ (f ≡ Fault.PumpBuffer) × (now (self .exit) ≡ now (self .entry)) ] ⌝ }
         ensures life { λ r. ⌜ Lives-on (state-of (P·Port .meaning (now (self .entry) .port)) (now (self .entry) .core)) (entry-of r (now (buffer .exit))) (state-of (P·Port .meaning (now (self .exit) .port)) (now (self .exit) .core)) ⌝ }
     {
-        if buffer.len() < 1024 {
+        if !takes_a_line(buffer) {
             return Err(Fault::PumpBuffer);
         }
         if !next_line(&mut self.port, &mut self.core.unfinished) {
