@@ -50,7 +50,10 @@ pub fn kept_address(address: &Address<'_>) -> Option<CommandAddress>
     ensures { λ r. ⌜ mapped address-of r ≡ keepable (placed (now (address .entry))) ⌝ }
 {
     match device_in(address.device) {
-        Some(device) => Some(CommandAddress { device, zone: address.zone }),
+        Some(device) => Some(CommandAddress {
+            device,
+            zone: address.zone,
+        }),
         None => None,
     }
 }

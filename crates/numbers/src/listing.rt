@@ -76,7 +76,11 @@ fn is_named(message: &Message<'_>, name: &[u8]) -> bool
 pub fn overview(message: &Message<'_>) -> Option<u16>
     ensures { λ r. ⌜ r ≡ overview-in (message-of (now (message .entry))) ⌝ }
 {
-    if is_named(message, b"BROWSE_RESULTS_OVERVIEW") { number_at(message, 4) } else { None }
+    if is_named(message, b"BROWSE_RESULTS_OVERVIEW") {
+        number_at(message, 4)
+    } else {
+        None
+    }
 }
 
 // Of a result line, which one it is, from 1.

@@ -25,7 +25,11 @@ fn plain_number(digits: &[u8]) -> Option<u16>
         }
         value = value * 10 + u32::from(*d - b'0');
     }
-    if value <= 65_535 { Some(value as u16) } else { None }
+    if value <= 65_535 {
+        Some(value as u16)
+    } else {
+        None
+    }
 }
 
 // The number that the field is, with its escapes resolved.

@@ -54,7 +54,9 @@ fn address_in<'a>(message: &Message<'a>) -> Address<'a>
     ensures { λ r. ⌜ placed r ≡ message-of (now (message .entry)) .address ⌝ }
 {
     match message {
-        Message::Answer { address, .. } | Message::Event { address, .. } | Message::Command { address, .. } => *address,
+        Message::Answer { address, .. }
+        | Message::Event { address, .. }
+        | Message::Command { address, .. } => *address,
     }
 }
 
@@ -73,7 +75,11 @@ impl Pending {
     fn at(self, place: Place) -> Pending
         ensures { λ r. ⌜ pending-of r ≡ advanced (pending-of self) (place-of place) ⌝ }
     {
-        Pending { address: self.address, browse: self.browse, place }
+        Pending {
+            address: self.address,
+            browse: self.browse,
+            place,
+        }
     }
 }
 

@@ -27,7 +27,10 @@ impl Numbers {
         ensures slots { λ r. ⌜ ((n : ℕ) → slots-of r n ≡ is-free) ⌝ }
         ensures recent { λ r. ⌜ r .recent ≡ 9 ⌝ }
     {
-        Numbers { slots: [Slot::Free; TEN], recent: 9 }
+        Numbers {
+            slots: [Slot::Free; TEN],
+            recent: 9,
+        }
     }
 
     // The first free number after the one last given, with 0 after 9.

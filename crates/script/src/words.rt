@@ -1,7 +1,7 @@
 // Words and numbers of a line.
 ghost use mathlib.Core.Path.{_≡_};
 ghost use Prim.Native.Nat.{_≤_};
-ghost use Rattle.std.specs.declared.option.Option.the-variants.{Some};
+ghost use Rattle.std.specs.declared.option.Option.the-variants.{Some, None};
 ghost use Rattle.script.specs.Script.{cut-word, number-to, one-digit-more};
 ghost use Rattle.script.specs.Meanings.{split};
 
@@ -23,7 +23,8 @@ pub(crate) const SIZE_MAX: usize = 4096;
 // One digit behind those of the value so far.
 fn with_digit(value: usize, d: u8) -> Option<usize>
     requires { ⌜ value ≤ 4096 ⌝ }
-    ensures { λ r. ⌜ r ≡ one-digit-more 4096 d (Some value) ⌝ }
+    ensures value { λ r. ⌜ r ≡ one-digit-more 4096 d (Some value) ⌝ }
+    ensures bound { λ r. ⌜ elim r [ Some n ↦ n ≤ 4096 | None ↦ Unit {0} ] ⌝ }
 {
     match d {
         b'0'..=b'9' => {
@@ -43,7 +44,10 @@ pub(crate) fn size(digits: &[u8]) -> Option<usize>
     }
     let mut value = 0;
     for d in digits {
-        value = with_digit(value, *d)?;
+        let Some(more) = with_digit(value, *d) else {
+            return None;
+        };
+        value = more;
     }
     Some(value)
 }

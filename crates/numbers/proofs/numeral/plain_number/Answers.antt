@@ -27,8 +27,7 @@ loop-d-again c =
     let i = c .loop-d .d-index in
     let is = c .if-not-is-digit .ensures tt in
     let most : getD s i 0 - 48 ≤ 9 = digit-most (getD s i 0) (sym is) in
-    let e = c .from .ensures in
-    (
+    let e = c .from .ensures in (
       every-more digit s s i (c .loop-d .inv .0) (search needs) (sym is),
       c .loop-d .inv .1 ∙ value-more s (c .loop-d .value) i (search needs) ∙ rw (← e),
       ten-more (c .loop-d .value) (c .from .result) i (c .loop-d .inv .2) (omega arith),
