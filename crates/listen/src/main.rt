@@ -31,6 +31,11 @@ impl fmt::Display for Row as RowDisplay {
                 Kind::Event => write!(f, "EVENT {length}"),
                 Kind::Notice => write!(f, "NOTICE {length}"),
                 Kind::Stray => write!(f, "STRAY {length}"),
+                Kind::Misplaced => write!(f, "MISPLACED {length}"),
+                Kind::More(n) => write!(f, "MORE {length} {n}"),
+                Kind::Last(n) => write!(f, "LAST {length} {n}"),
+                Kind::Late(n) => write!(f, "LATE {length} {n}"),
+                Kind::LateLast(n) => write!(f, "LATE LAST {length} {n}"),
             },
         }
     }
