@@ -2,5 +2,3 @@ mod Kept
 mod Marks
 mod RightKinds
 mod Pumping
-mod Passing
-mod Settling
