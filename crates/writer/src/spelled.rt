@@ -9,10 +9,16 @@ ghost use Rattle.escape.specs.Spelling.{in-digits, spelled, spelling};
 pub(crate) fn numeral(b: u8) -> [u8; 5]
     ensures { λ r. ⌜ r ≡ in-digits b ⌝ }
 {
-    [b'\\', b'd', b'0' + b / 100, b'0' + b / 10 % 10, b'0' + b % 10]
+    [
+        b'\\',
+        b'd',
+        b'0' + b / 100,
+        b'0' + b / 10 % 10,
+        b'0' + b % 10,
+    ]
 }
 
-fn spelled_len(b: u8) -> usize
+pub(crate) fn spelled_len(b: u8) -> usize
     ensures { λ r. ⌜ r ≡ length (spelled b) ⌝ }
 {
     match b {
