@@ -16,7 +16,7 @@ use Rattle.reader.specs.Cutting.{lines-from, left-from, lines-read, Part}
 use Rattle.life.specs.Codec.{Codec, Lawful, as-shown}
 use Rattle.port.specs.Port.{Meaning, Departed}
 use Rattle.port.specs.Runs.{begun as no-call, depart}
-use Rattle.port.proofs.Runs.{kept-in-order}
+use Rattle.port.proofs.Runs.{keeps}
 use Rattle.life.specs.Answers.{Whole-answer}
 use Rattle.life.specs.Calls.{Kind, event, Outcome, Line, event-line, empty-line, answer-line, quiet, submitted, dry, handed, settled, reset, arrived, departed, emitted, History, Begins, add-to, ever, since, before, messages, accepted, lines, shown, bytes-in, bytes-out}
 use Rattle.life.specs.Player.{line-bytes, all-bytes, answer-to, commands-read, May-emit, may-empty, may-event, may-answer, Honest}
@@ -109,7 +109,7 @@ last-one n k i (emitted l ∷ h) e f = last-one n k i h e f
 
 -- what departed, followed by what is still outgoing, was outgoing
 departed-all : (m z : Meaning) (old new : List ℕ) (k : ℕ) → Departed m z old new k → take k new ++ z .outgoing ≡ m .outgoing
-departed-all m z old new k d = kept-in-order m z _ (depart no-call d) .outgoing ∙ append-nil (m .outgoing)
+departed-all m z old new k d = keeps m .run z _ (depart no-call d) .outgoing ∙ append-nil (m .outgoing)
 
 given-small : (b : ℕ → Slot) (r n : ℕ) → First-free b r n → n < 10
 given-small b r n f = let e = f .there in omega arith
