@@ -15,6 +15,7 @@ use port::Port;
 use reader::Unfinished;
 
 mod steps;
+mod submitting;
 
 #[derive(Drop)]
 pub struct Link<P> {
