@@ -9,10 +9,8 @@ use crate::core::Core;
 use crate::pumped::Pumped;
 use crate::ticket::Ticket;
 use line::Fault;
-use numbers::Numbers;
 use numbers::Outcome;
 use port::Port;
-use reader::Unfinished;
 
 mod steps;
 mod submitting;
@@ -33,11 +31,7 @@ impl<P: Port> Link<P> {
     {
         Link {
             port,
-            core: Core {
-                number,
-                unfinished: Unfinished::new(),
-                numbers: Numbers::new(),
-            },
+            core: Core::new(number),
         }
     }
 

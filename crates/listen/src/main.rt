@@ -31,6 +31,11 @@ impl fmt::Display for Row as RowDisplay {
                 Kind::Event => write!(f, "EVENT {length}"),
                 Kind::Notice => write!(f, "NOTICE {length}"),
                 Kind::Stray => write!(f, "STRAY {length}"),
+                Kind::Misplaced => write!(f, "MISPLACED {length}"),
+                Kind::More(number) => write!(f, "MORE {number} {length}"),
+                Kind::Last(number) => write!(f, "LAST {number} {length}"),
+                Kind::Late(number) => write!(f, "LATE {number} {length}"),
+                Kind::LateLast(number) => write!(f, "LATE LAST {number} {length}"),
             },
         }
     }

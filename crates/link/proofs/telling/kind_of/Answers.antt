@@ -10,7 +10,7 @@ tell-requires c κs = held-marked (c .args .held .now) (c .args .over) (message-
 pub returns-in-Ok : need.returns-in-Ok
 returns-in-Ok c = record {
   told = tells-message (c .args .held .now) (slots-of (c .args .numbers .now)) (slots-of (c .tell .last .numbers)) (c .args .over) (message-of (c .in-Ok .message)) (c .tell .result)
-    (c .in-Ok .ensures tt) (c .tell .ensures .told);
+      (c .in-Ok .ensures tt) (c .tell .ensures .told);
   recent = c .tell .ensures .recent;
 }
 

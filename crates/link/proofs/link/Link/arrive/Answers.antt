@@ -6,6 +6,6 @@ pub returns : need.returns
 returns g c = record {
   does = c .do-arrive .ensures;
   life = arrive-lives (state (g .P·Port .meaning (c .args .self .now .port)) (c .args .self .now .core))
-    (state (g .P·Port .meaning (c .do-arrive .last .self .port)) (c .do-arrive .last .self .core))
-    (c .args .bytes .now) (c .do-arrive .result) (c .do-arrive .ensures);
+      (state (g .P·Port .meaning (c .do-arrive .last .self .port)) (c .do-arrive .last .self .core))
+      (c .args .bytes .now) (c .do-arrive .result) (c .do-arrive .ensures);
 }

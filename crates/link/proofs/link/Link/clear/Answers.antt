@@ -6,6 +6,6 @@ pub returns : need.returns
 returns g c = record {
   does = c .do-clear .ensures;
   life = clear-lives (state (g .P·Port .meaning (c .args .self .now .port)) (c .args .self .now .core))
-    (state (g .P·Port .meaning (c .do-clear .last .self .port)) (c .do-clear .last .self .core))
-    (c .args .value) (c .do-clear .ensures);
+      (state (g .P·Port .meaning (c .do-clear .last .self .port)) (c .do-clear .last .self .core))
+      (c .args .value) (c .do-clear .ensures);
 }

@@ -7,6 +7,6 @@ returns g c = record {
   does = c .do-pump .ensures .does;
   refused = c .do-pump .ensures .refused;
   life = pump-lives (state (g .P·Port .meaning (c .args .self .now .port)) (c .args .self .now .core))
-    (state (g .P·Port .meaning (c .do-pump .last .self .port)) (c .do-pump .last .self .core))
-    (c .args .buffer .now) (c .do-pump .last .buffer) (c .do-pump .result) (c .do-pump .ensures .does);
+      (state (g .P·Port .meaning (c .do-pump .last .self .port)) (c .do-pump .last .self .core))
+      (c .args .buffer .now) (c .do-pump .last .buffer) (c .do-pump .result) (c .do-pump .ensures .does);
 }

@@ -7,6 +7,6 @@ returns g c = record {
   does = c .do-settle .ensures .does;
   foreign = c .do-settle .ensures .foreign;
   life = settle-lives (state (g .P·Port .meaning (c .args .self .now .port)) (c .args .self .now .core))
-    (state (g .P·Port .meaning (c .do-settle .last .self .port)) (c .do-settle .last .self .core))
-    (c .args .ticket .link) (c .args .ticket .number) (c .do-settle .result) (c .do-settle .ensures .does);
+      (state (g .P·Port .meaning (c .do-settle .last .self .port)) (c .do-settle .last .self .core))
+      (c .args .ticket .link) (c .args .ticket .number) (c .do-settle .result) (c .do-settle .ensures .does);
 }
