@@ -1,0 +1,11 @@
+use mathlib.Core.Path.{sym, _∙_}
+use mathlib.Core.List.{[], _∷_}
+use native.Mathlib.Omega.{arith}
+use borrow.Author.Needs.{needs}
+use Rattle.request.proofs.Puts.{lies-checked}
+use Rattle.request.proofs.composing.put_check.Needs as need
+
+pub returns : need.returns
+returns c = λ was l o.
+    let one = c .put-at .ensures .lies was l o in
+    lies-checked was l _ _ (c .put-at .result) _ (c .check-sum-check .result) (one .len) (c .check-sum-check .ensures) one (c .put .ensures .lies was _ one)
