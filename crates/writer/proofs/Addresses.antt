@@ -276,3 +276,30 @@ address-was answer s a e = go (unaddressed s) refl e
         let h = split-from s a e in
         let not-none : unaddressed (a .device) ≡ false = subst (λ (x : List ℕ). unaddressed x ≡ false) (append-nil (a .device)) (not-unaddressed (a .device) [] (h .0)) in
         record { form = rw not-none (split-was s a h); text = h .2 }
+
+-- ---- an address is short
+device-short : (s : List ℕ) → Device s → length s ≤ 13
+device-short s (by-serial t len e) = omega arith
+device-short s (by-number a b n e) = omega arith
+
+zone-short : (z : Option ℕ) → length (zone-text z) ≤ 3
+zone-short None = omega arith
+zone-short (Some z) = omega arith
+
+split-short : (s : List ℕ) (a : Address) → Split s a → length s ≤ 16
+unfolding Split
+split-short s a h = omega (arith, ap length (h .2), length-append (a .device) (zone-text (a .zone)), device-short (a .device) (h .0), zone-short (a .zone))
+
+none-short : (s : List ℕ) → unaddressed s ≡ true → length s ≤ 16
+none-short [] e = omega arith
+none-short (a ∷ []) e = omega arith
+none-short (a ∷ b ∷ []) e = omega arith
+none-short (a ∷ b ∷ c ∷ s) e = never e
+
+pub address-short : (side : Side) (s : List ℕ) (a : Address) → address-of side s ≡ Some a → length s ≤ 16
+address-short command s a e = split-short s a (split-from s a e)
+address-short answer s a e = go (unaddressed s) refl e
+  where
+    go : (t : Bool) → unaddressed s ≡ t → cond t (Some (record { device = s; zone = None })) (split-device s (device-length s)) ≡ Some a → length s ≤ 16
+    go true p e = none-short s p
+    go false p e = split-short s a (split-from s a e)

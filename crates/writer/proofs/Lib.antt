@@ -1,3 +1,6 @@
 pub mod Addresses
 pub mod Backs
 pub mod Growing
+pub mod Opening
+pub mod Shorter
+pub mod Again

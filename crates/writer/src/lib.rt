@@ -5,4 +5,6 @@ mod spelled;
 mod writing;
 
 pub use laws::canonical_reads_back;
+pub use laws::one_message_a_line;
+pub use laws::read_writes_again;
 pub use page::Writer;

@@ -8,7 +8,7 @@ ghost use Rattle.std.specs.declared.result.Result.the-variants.{Ok, Err};
 ghost use Rattle.escape.specs.Spelling.{spelled, spelling};
 ghost use Rattle.line.specs.Lines.{Message};
 ghost use Rattle.line.specs.Meanings.{side-of};
-ghost use Rattle.writer.specs.Canonical.{closed};
+ghost use Rattle.writer.specs.Canonical.{head-text, closed};
 ghost use Rattle.writer.specs.Writing.{Lies, Opened, Closed, begun, with-field, refusal, begin-fault, add-fault};
 use crate::page::Writer;
 use crate::spelled::spelled_within;
@@ -31,6 +31,72 @@ impl<'a> Writer<'a> {
         ensures lender { λ r. ⌜ name (r .out) ≡ name (out .entry) ⌝ }
     {
         Writer { out, len: 0 }
+    }
+
+    // Begins the line of a message with its first field alone; one that is open already is given up.
+    pub fn begin(
+        &mut self,
+        side: Side,
+        address: &[u8],
+        mark: char,
+        first: &[u8],
+    ) -> Result<(), Fault>
+        ensures answer { λ r. ⌜ refusal r ≡ begin-fault (side-of side) (now (address .entry)) mark (now (first .entry)) (length (now (now (self .entry) .out))) ⌝ }
+        ensures state { λ r. ⌜ elim r [ Ok _ ↦ Opened (now (now (self .entry) .out)) (begun (side-of side) (now (address .entry)) mark (now (first .entry))) (now (now (self .exit) .out)) (now (self .exit) .len) | Err f ↦ now (self .exit) ≡ now (self .entry) ] ⌝ }
+        ensures lender { λ _. ⌜ name (now (self .exit) .out) ≡ name (now (self .entry) .out) ⌝ }
+    {
+        if let Some(fault) = head_fault(side, address, mark, first, self.out.len()) {
+            return Err(fault);
+        }
+        self.open(address, mark as u8, first);
+        Ok(())
+    }
+
+    // Adds a field, given as plain bytes, to the line that is open.
+    pub fn add(&mut self, field: &[u8]) -> Result<(), Fault>
+        ensures answer { λ r. ⌜ refusal r ≡ add-fault (now (self .entry) .len) (now (field .entry)) (length (now (now (self .entry) .out))) ⌝ }
+        ensures state { λ r. ⌜ elim r [ Ok _ ↦ ((was : List ℕ) (m : Message) → Opened was m (now (now (self .entry) .out)) (now (self .entry) .len) → Opened was (with-field m (now (field .entry))) (now (now (self .exit) .out)) (now (self .exit) .len)) | Err f ↦ now (self .exit) ≡ now (self .entry) ] ⌝ }
+        ensures lender { λ _. ⌜ name (now (self .exit) .out) ≡ name (now (self .entry) .out) ⌝ }
+    {
+        let at = self.len;
+        if at == 0 {
+            return Err(Fault::ShortBuffer);
+        }
+        let Some(n) = spelled_within(field, LINE_MAX) else {
+            return Err(Fault::TooLong);
+        };
+        if at + n + 1 + CHECK_LEN > LINE_MAX {
+            return Err(Fault::TooLong);
+        }
+        if at + n + 1 + CHECK_LEN > self.out.len() {
+            return Err(Fault::ShortBuffer);
+        }
+        self.push_field(field);
+        self.push(b':');
+        Ok(())
+    }
+
+    // Closes the line and answers its length, or 0 if none is open.
+    pub fn close(self) -> usize
+        ensures closed { λ r. ⌜ ((was : List ℕ) (m : Message) → Opened was m (now (self .entry .out)) (self .entry .len) → Closed was m (now (self .exit .0)) r) ⌝ }
+        ensures none { λ r. ⌜ (self .entry .len ≡ 0 → (r ≡ 0) × (now (self .exit .0) ≡ now (self .entry .out))) ⌝ }
+    {
+        let Writer { out, len } = self;
+        end(out, len)
+    }
+
+    // Writes how a line begins; the first field is spelled as it is.
+    fn open(&mut self, address: &[u8], mark: u8, first: &[u8])
+        requires { ⌜ length (now address) + length (now first) + 7 ≤ length (now (now self .out)) ⌝ ∗ ⌜ length (now address) + length (now first) + 7 ≤ 1024 ⌝ }
+        ensures some { λ _. ⌜ 0 < now (self .exit) .len ⌝ }
+        ensures lies { λ _. ⌜ Lies (now (now (self .entry) .out)) (head-text (now (address .entry)) mark ++ (now (first .entry) ++ (58 ∷ []))) (now (now (self .exit) .out)) (now (self .exit) .len) ⌝ }
+        ensures lender { λ _. ⌜ name (now (self .exit) .out) ≡ name (now (self .entry) .out) ⌝ }
+    {
+        self.len = 0;
+        self.push_all(address);
+        self.push_all(&[b'/', mark, b'/']);
+        self.push_all(first);
+        self.push(b':');
     }
 
     fn push(&mut self, b: u8)
@@ -70,7 +136,15 @@ impl<'a> Writer<'a> {
             b'\r' => self.push_all(b"\\r"),
             b'\t' => self.push_all(b"\\t"),
             b' '..=b'~' => self.push(b),
-            _ => self.push_all(&[b'\\', b'd', b'0' + b / 100, b'0' + b / 10 % 10, b'0' + b % 10]),
+            _ => self.push_all(
+                &[
+                    b'\\',
+                    b'd',
+                    b'0' + b / 100,
+                    b'0' + b / 10 % 10,
+                    b'0' + b % 10,
+                ],
+            ),
         }
     }
 
@@ -85,6 +159,25 @@ impl<'a> Writer<'a> {
             self.push_spelled(*b);
         }
     }
+}
+
+// Why a line may not begin so, in a buffer of `room` bytes. Parts with their forms are short: no line begins too long.
+fn head_fault(side: Side, address: &[u8], mark: char, first: &[u8], room: usize) -> Option<Fault>
+    ensures { λ r. ⌜ r ≡ begin-fault (side-of side) (now (address .entry)) mark (now (first .entry)) room ⌝ }
+{
+    let Some(_) = address_in(side, address) else {
+        return Some(Fault::BadAddress);
+    };
+    if !is_mark(side, mark) {
+        return Some(Fault::BadMark(address.len() + 1));
+    }
+    if !is_first_field(side, first) {
+        return Some(Fault::FirstField(address.len() + 3));
+    }
+    if address.len() + first.len() + 4 + CHECK_LEN > room {
+        return Some(Fault::ShortBuffer);
+    }
+    None
 }
 
 // Closes the line of `len` bytes at the buffer's front, if there is one, and answers how long it is then.
