@@ -11,6 +11,7 @@ ghost use Rattle.line.specs.Meanings.{side-of};
 ghost use Rattle.writer.specs.Canonical.{head-text, closed};
 ghost use Rattle.writer.specs.Writing.{Lies, Opened, Closed, begun, with-field, refusal, begin-fault, add-fault};
 use crate::page::Writer;
+use crate::spelled::numeral;
 use crate::spelled::spelled_within;
 use line::Fault;
 use line::LINE_MAX;
@@ -136,15 +137,7 @@ impl<'a> Writer<'a> {
             b'\r' => self.push_all(b"\\r"),
             b'\t' => self.push_all(b"\\t"),
             b' '..=b'~' => self.push(b),
-            _ => self.push_all(
-                &[
-                    b'\\',
-                    b'd',
-                    b'0' + b / 100,
-                    b'0' + b / 10 % 10,
-                    b'0' + b % 10,
-                ],
-            ),
+            _ => self.push_all(&numeral(b)),
         }
     }
 
