@@ -129,7 +129,7 @@ ended-parts (p ∷ q ∷ ps) fs e = go (all-ended (q ∷ ps)) refl e (λ gs h. e
     go None h e later = let z : _≡_ {A = ℕ} 0 1 = cc in absurd (omega arith)
     go (Some gs) h e later = let s : p ∷ gs ≡ fs = cc in ap (λ (x : List (List ℕ)). p ∷ x) (later gs h) ∙ ap (λ (x : List (List ℕ)). x ++ ([] ∷ [])) s
 
-body-parts : (body : List ℕ) (f : List ℕ × List (List ℕ)) → fields-of body ≡ Some f → parts 58 body ≡ (f .0 ∷ f .1) ++ ([] ∷ [])
+pub body-parts : (body : List ℕ) (f : List ℕ × List (List ℕ)) → fields-of body ≡ Some f → parts 58 body ≡ (f .0 ∷ f .1) ++ ([] ∷ [])
 body-parts body f e = go (all-ended (parts 58 body)) refl e
   where
     go : (o : Option (List (List ℕ))) → all-ended (parts 58 body) ≡ o → first-and-later o ≡ Some f → parts 58 body ≡ (f .0 ∷ f .1) ++ ([] ∷ [])
@@ -170,7 +170,7 @@ sized p ps summed n (in-four c e) t one fault =
     let two : length c ≡ 2 = two-long summed c (ap (check-fault summed) (sym e) ∙ fault) in
     (omega arith, λ h. omega arith)
 
-canonical-length : (a b : List ℕ) (k : ℕ) → length (closed (head-text a k ++ b)) ≡ length a + length b + 6
+pub canonical-length : (a b : List ℕ) (k : ℕ) → length (closed (head-text a k ++ b)) ≡ length a + length b + 6
 canonical-length a b k =
     omega (arith, length-append (head-text a k ++ b) (47 ∷ in-two-digits (check-of ((head-text a k ++ b) ++ (47 ∷ [])))), length-append (head-text a k) b, length-append a (47 ∷ k ∷ 47 ∷ []))
 
