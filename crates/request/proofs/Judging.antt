@@ -4,11 +4,11 @@ use mathlib.Core.Bool.{Bool, true, false, cond}
 use mathlib.Core.List.{List, [], _∷_, _++_, append-assoc, map}
 use Prim.Native.Nat.{ℕ, _+_, _/_, _%_, _≤_, _<_}
 use native.Mathlib.Omega.{arith}
-use lib.Dec.{leb}
+use lib.Dec.{leb, ltb}
 use lib.ListN.{length, take, length-append}
 use lib.Seq.{take-at}
 use Rattle.std.proofs.shelf.Lists.{same-from-push}
-use Rattle.std.proofs.shelf.Tests.{leb-true, leb-false, le-leb, lt-leb, eq-eqb}
+use Rattle.std.proofs.shelf.Tests.{leb-true, leb-false, le-leb, lt-leb, lt-ltb, eq-eqb}
 use Rattle.std.specs.Vec.{Every}
 use Rattle.std.specs.declared.option.Option.{Option}
 use Rattle.std.specs.declared.option.Option.the-variants.{Some, None}
@@ -16,13 +16,15 @@ use Rattle.escape.specs.Tokens.{Token, plain, tokens, digit, text, further, fir
 use Rattle.escape.proofs.Opening.{tokens-plain}
 use Rattle.escape.proofs.Walking.{parts-other, parts-here}
 use Rattle.escape.proofs.Chunks.{Tame, Seen}
-use Rattle.line.specs.Forms.{command, Address, visible, two-digits, address-of, mark-of, check-of, is-first-field}
+use Rattle.line.specs.Forms.{command, Address, every, visible, two-digits, address-of, mark-of, check-of, is-first-field}
 use Rattle.line.specs.Lines.{Message, Read, meant, faulty, Parts, parted, mark-place, body-place, check-place, all-ended, one-more, nothing-left, first-and-later, fields-of, first-invisible, sum-fault, check-fault, body-read, parts-read, reading}
-use Rattle.writer.specs.Canonical.{in-two-digits, address-text, head-text, closed, canonical}
-use Rattle.writer.specs.Laws.{has-check, keeps-check}
+use Rattle.writer.specs.Canonical.{in-two-digits, address-text, head-text, closed, canonical, sendable}
+use Rattle.writer.specs.Laws.{Bytes, has-check, keeps-check}
 use Rattle.writer.proofs.Addresses.{never, tame-digit, two-tame, two-back, formed-address, address-was}
 use Rattle.writer.proofs.Backs.{in-a-row, reading-by}
-use Rattle.writer.proofs.Again.{writes-again}
+use Rattle.writer.proofs.Repeating.{writes-again}
+use Rattle.numbers.specs.Browse.{is-command}
+use Rattle.numbers.specs.Ours.{all-bytes}
 use Rattle.request.specs.Requests.{composed, request-read}
 use Rattle.request.specs.Laws.{marked, Digit-untold, Ready, Sends}
 use Rattle.request.proofs.Puts.{composed-length}
@@ -419,6 +421,14 @@ judged a b = go (leb (length a + length b + 6) 1024) refl (first-invisible (row 
     go true p None e = by-ends a b (leb-true (length a + length b + 6) 1024 p) e (ends a) (ends b)
 
 -- ---- what follows for every digit
+byte-list-passes : (f : List ℕ) → Every (λ b. b < 256) f → every (λ b. ltb b 256) f ≡ true
+byte-list-passes [] h = refl
+byte-list-passes (b ∷ f) h = rw (lt-ltb b 256 (h .0)) (byte-list-passes f (h .1))
+
+bytes-pass : (fs : List (List ℕ)) → Bytes fs → all-bytes fs ≡ true
+bytes-pass [] h = refl
+bytes-pass (f ∷ fs) h = rw (byte-list-passes f (h .0)) (bytes-pass fs (h .1))
+
 pub untold : Digit-untold
 untold a b d e hd he = go (judged a b)
   where
@@ -436,9 +446,6 @@ sends a b d m hd e = go (judged a b)
         let is : record { side = command; address = x; mark = d; fields = fs } ≡ m = cc in
         let w = writes-again command (composed a d b) m e in
         let short : length (composed a d b) ≤ 1024 = fits-read (composed a d b) m e in
-        record {
-          side = ap (λ (k : Message). k .side) (sym is);
-          mark = ap (λ (k : Message). k .mark) (sym is);
-          bytes = w .bytes;
-          sends = w .sends ∙ le-leb (length (canonical m)) 1024 (omega (arith, w .no-longer (f d hd .checked)));
-        }
+        let fits : sendable m ≡ true = w .sends ∙ le-leb (length (canonical m)) 1024 (omega (arith, w .no-longer (f d hd .checked))) in
+        let is-one : is-command (m .side) ≡ true = ap (λ (k : Message). is-command (k .side)) (sym is) in
+        record { mark = ap (λ (k : Message). k .mark) (sym is); sends = rw (is-one, bytes-pass (m .fields) (w .bytes)) fits }

@@ -1,13 +1,15 @@
 -- Bytes put behind those that lie at the front of a buffer, and the line that they make.
 use mathlib.Core.Path.{_≡_, refl, sym, ap, subst, _∙_}
 use mathlib.Core.List.{List, [], _∷_, _++_, append-assoc}
-use Prim.Native.Nat.{ℕ, _+_, _-_, _/_, _%_, _≤_, _<_}
+use Prim.Native.Nat.{ℕ, _+_, _-_, _≤_, _<_}
 use native.Mathlib.Omega.{arith}
 use native.Mathlib.Nat.{sub-zero}
 use borrow.Rule.Slice.PartMut.{putMid}
+use mathlib.Core.Bool.{Bool, true, false}
+use lib.Dec.{leb}
 use lib.ListN.{length, take, drop, length-append, length-drop}
 use lib.Seq.{drop-drop, take-at, drop-at}
-use Rattle.std.proofs.shelf.Tests.{le-leb, lt-leb}
+use Rattle.std.proofs.shelf.Tests.{le-leb, lt-leb, leb-true, leb-false}
 use Rattle.std.specs.declared.option.Option.{Option}
 use Rattle.std.specs.declared.option.Option.the-variants.{Some, None}
 use Rattle.escape.specs.Resolving.{fitting, written}
@@ -35,12 +37,12 @@ lies-put was l out bs ys at k h same size o =
     }
 
 -- the slash, and behind it the two digits of what was summed
-pub lies-checked : (was l out new : List ℕ) (at n s : ℕ) → at ≡ length (l ++ (47 ∷ [])) → s ≡ check-of (take (at - 0) out) → Lies was (l ++ (47 ∷ [])) out at
-    → Lies was ((l ++ (47 ∷ [])) ++ ((48 + s / 10) ∷ (48 + s % 10) ∷ [])) new n → Lies was (closed l) new n
-lies-checked was l out new at n s len e o done =
+pub lies-checked : (was l out new ys : List ℕ) (at n s : ℕ) → ys ≡ in-two-digits s → at ≡ length (l ++ (47 ∷ [])) → s ≡ check-of (take (at - 0) out) → Lies was (l ++ (47 ∷ [])) out at
+    → Lies was ((l ++ (47 ∷ [])) ++ ys) new n → Lies was (closed l) new n
+lies-checked was l out new ys at n s two len e o done =
     let line : take (at - 0) out ≡ l ++ (47 ∷ []) = rw (sub-zero at) (ap (take at) (o .held) ∙ take-at (l ++ (47 ∷ [])) _ at (sym len)) in
     let is : s ≡ check-of (l ++ (47 ∷ [])) = e ∙ ap check-of line in
-    let text : (l ++ (47 ∷ [])) ++ in-two-digits s ≡ closed l = append-assoc l (47 ∷ []) (in-two-digits s) ∙ ap (λ (k : ℕ). l ++ (47 ∷ in-two-digits k)) is in
+    let text : (l ++ (47 ∷ [])) ++ ys ≡ closed l = ap (λ (x : List ℕ). (l ++ (47 ∷ [])) ++ x) two ∙ append-assoc l (47 ∷ []) (in-two-digits s) ∙ ap (λ (k : ℕ). l ++ (47 ∷ in-two-digits k)) is in
     subst (λ (x : List ℕ). Lies was x new n) text done
 
 -- ---- the whole line
@@ -60,3 +62,23 @@ module _ (a b was : List ℕ) (d : ℕ) (room : length was ≡ 1024) where
       let k = composed-length a b d in
       let some : Some n ≡ Some (length (composed a d b)) = ap (λ (i : ℕ). Some i) (o .len) in
       (some ∙ rw (le-leb (length (composed a d b)) 1024 (omega arith)), o .held ∙ rw (le-leb (length (composed a d b)) (length was) (omega arith)))
+
+-- the line again, from the buffer's front
+module _ (l was out : List ℕ) (room : length was ≡ 1024) (e : out ≡ written l was) where
+  pub front-is : (n : ℕ) → Some n ≡ fitting l 1024 → take (n - 0) out ≡ l
+  front-is n some = go (leb (length l) 1024) refl
+    where
+      go : (t : Bool) → leb (length l) 1024 ≡ t → take (n - 0) out ≡ l
+      go true p =
+          let h = leb-true (length l) 1024 p in
+          let k : Some n ≡ Some (length l) = some ∙ rw p in
+          let len : length l ≡ n = cc in
+          rw (sub-zero n) (ap (take n) (e ∙ rw (le-leb (length l) (length was) (omega arith))) ∙ take-at l (drop (length l) was) n len)
+      go false p = let k : Some n ≡ None = some ∙ rw p in let z : _≡_ {A = ℕ} 0 1 = cc in absurd (omega arith)
+
+pub is-long : (l : List ℕ) → None ≡ fitting l 1024 → 1024 < length l
+is-long l none = go (leb (length l) 1024) refl
+  where
+    go : (t : Bool) → leb (length l) 1024 ≡ t → 1024 < length l
+    go true p = let k : None ≡ Some (length l) = none ∙ rw p in let z : _≡_ {A = ℕ} 0 1 = cc in absurd (omega arith)
+    go false p = leb-false (length l) 1024 p

@@ -4,10 +4,8 @@ use mathlib.Core.Bool.{true}
 use mathlib.Core.List.{List}
 use Prim.Native.Nat.{ℕ}
 use Rattle.escape.specs.Tokens.{digit}
-use Rattle.line.specs.Forms.{command}
 use Rattle.line.specs.Lines.{Message, Read, meant, faulty}
-use Rattle.writer.specs.Canonical.{sendable}
-use Rattle.writer.specs.Laws.{Bytes}
+use Rattle.numbers.specs.Ours.{sendable-command}
 use Rattle.request.specs.Requests.{request-read}
 
 -- the same message with another mark; a fault as it is
@@ -19,12 +17,10 @@ marked digit (faulty number place) = faulty number place
 abbrev pub Digit-untold : Type 0
 Digit-untold = (address body : List ℕ) (d e : ℕ) → digit d ≡ true → digit e ≡ true → request-read address e body ≡ marked e (request-read address d body)
 
--- a command with the digit for its mark, of bytes, that can be sent
+-- a command that can be sent, with the digit for its mark
 pub record Ready (d : ℕ) (m : Message) : Type 0 where
-  pub side : m .side ≡ command
   pub mark : m .mark ≡ d
-  pub bytes : Bytes (m .fields)
-  pub sends : sendable m ≡ true
+  pub sends : sendable-command m ≡ true
 
 -- what a request means can be sent
 abbrev pub Sends : Type 0

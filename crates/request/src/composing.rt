@@ -1,10 +1,10 @@
 // The line that a request is judged by, put together at the front of a buffer.
 ghost use mathlib.Core.Path.{_≡_};
 ghost use mathlib.Core.List.{List, [], _∷_, _++_};
-ghost use Prim.Native.Nat.{ℕ, _+_, _≤_};
+ghost use Prim.Native.Nat.{ℕ, _+_, _<_, _≤_};
 ghost use lib.ListN.{length};
 ghost use Rattle.escape.specs.Resolving.{fitting, written};
-ghost use Rattle.writer.specs.Canonical.{closed};
+ghost use Rattle.writer.specs.Canonical.{in-two-digits, closed};
 ghost use Rattle.writer.specs.Writing.{Lies};
 ghost use Rattle.request.specs.Requests.{composed};
 use line::LINE_MAX;
@@ -24,6 +24,14 @@ fn put(line: &mut [u8], at: usize, bytes: &[u8]) -> usize
     end
 }
 
+// A number below 100 in two digits.
+fn two_digits(n: u8) -> [u8; 2]
+    requires { ⌜ n < 100 ⌝ }
+    ensures { λ r. ⌜ r ≡ in-two-digits n ⌝ }
+{
+    [b'0' + n / 10, b'0' + n % 10]
+}
+
 // Closes the `at` bytes that are written with the third slash and their check.
 fn put_check(line: &mut [u8], at: usize) -> usize
     requires { ⌜ at + 3 ≤ length (now line) ⌝ }
@@ -31,7 +39,18 @@ fn put_check(line: &mut [u8], at: usize) -> usize
 {
     let at = put(line, at, b"/");
     let check = check_sum(&line[0..at]);
-    put(line, at, &[b'0' + check / 10, b'0' + check % 10])
+    put(line, at, &two_digits(check))
+}
+
+// Writes what stands before the third slash.
+fn put_parts(line: &mut [u8], address: &[u8], digit: u8, body: &[u8]) -> usize
+    requires { ⌜ length (now address) + length (now body) + 3 ≤ length (now line) ⌝ }
+    ensures end { λ r. ⌜ r ≡ length (now (address .entry)) + length (now (body .entry)) + 3 ⌝ }
+    ensures lies { λ r. ⌜ ((was l : List ℕ) → Lies was l (now (line .entry)) 0 → Lies was (((l ++ now (address .entry)) ++ (47 ∷ digit ∷ 47 ∷ [])) ++ now (body .entry)) (now (line .exit)) r) ⌝ }
+{
+    let at = put(line, 0, address);
+    let at = put(line, at, &[b'/', digit, b'/']);
+    put(line, at, body)
 }
 
 // Writes the line of a request to the buffer's front and answers its length; or writes nothing, for want of room.
@@ -43,8 +62,6 @@ pub fn compose(address: &[u8], digit: u8, body: &[u8], line: &mut [u8; 1024]) ->
     if address.len() > room || body.len() > room - address.len() {
         return None;
     }
-    let at = put(line, 0, address);
-    let at = put(line, at, &[b'/', digit, b'/']);
-    let at = put(line, at, body);
+    let at = put_parts(line, address, digit, body);
     Some(put_check(line, at))
 }

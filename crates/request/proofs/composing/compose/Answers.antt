@@ -22,8 +22,6 @@ returns c =
     let a = c .args .address .now in
     let b = c .args .body .now in
     let was = c .args .line .now in
-    let one = c .put-at .ensures .lies was [] (lies-none was) in
-    let two = c .put-at-2 .ensures .lies was _ one in
-    let three = c .put-at-3 .ensures .lies was _ two in
-    let h = fits a b was (c .args .digit) (c .told-line) (c .put-check .last .line) (c .put-check .result) (omega arith) (c .put-check .ensures was _ three) in
+    let parts = c .put-parts-at .ensures .lies was [] (lies-none was) in
+    let h = fits a b was (c .args .digit) (c .told-line) (c .put-check .last .line) (c .put-check .result) (omega arith) (c .put-check .ensures was _ parts) in
     record { answer = h .0; after = h .1 }
