@@ -52,13 +52,15 @@ composed-length a b d =
     omega (arith, length-append l (47 ∷ in-two-digits (check-of (l ++ (47 ∷ [])))), length-append (head-text a d) b, length-append a (47 ∷ d ∷ 47 ∷ []))
 
 module _ (a b was : List ℕ) (d : ℕ) (room : length was ≡ 1024) where
-  pub too-long : 1024 < length a + length b + 6 → (None ≡ fitting (composed a d b) 1024) × (was ≡ written (composed a d b) was)
-  too-long h =
+  pub too-long : false ≡ leb (length a + length b + 6) 1024 → (None ≡ fitting (composed a d b) 1024) × (was ≡ written (composed a d b) was)
+  too-long e =
+      let h = leb-false (length a + length b + 6) 1024 (sym e) in
       let n = composed-length a b d in
       (rw (lt-leb (length (composed a d b)) 1024 (omega arith)), rw (lt-leb (length (composed a d b)) (length was) (omega arith)))
 
-  pub fits : (out : List ℕ) (n : ℕ) → length a + length b + 6 ≤ 1024 → Lies was (composed a d b) out n → (Some n ≡ fitting (composed a d b) 1024) × (out ≡ written (composed a d b) was)
-  fits out n h o =
+  pub fits : (out : List ℕ) (n : ℕ) → true ≡ leb (length a + length b + 6) 1024 → Lies was (composed a d b) out n → (Some n ≡ fitting (composed a d b) 1024) × (out ≡ written (composed a d b) was)
+  fits out n e o =
+      let h = leb-true (length a + length b + 6) 1024 (sym e) in
       let k = composed-length a b d in
       let some : Some n ≡ Some (length (composed a d b)) = ap (λ (i : ℕ). Some i) (o .len) in
       (some ∙ rw (le-leb (length (composed a d b)) 1024 (omega arith)), o .held ∙ rw (le-leb (length (composed a d b)) (length was) (omega arith)))

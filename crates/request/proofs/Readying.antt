@@ -1,21 +1,20 @@
 -- A command that can be sent is kept and written again, whatever the buffer, if that is long enough for any line.
 use mathlib.Core.Path.{_≡_, refl, sym, ap, _∙_}
-use mathlib.Core.Bool.{true, false}
-use mathlib.Core.List.{List, [], _∷_, _++_}
-use Prim.Native.Nat.{ℕ, _+_, _%_, _≤_, _<_}
+use mathlib.Core.Bool.{true}
+use mathlib.Core.List.{List}
+use Prim.Native.Nat.{ℕ, _+_, _%_, _≤_}
 use native.Mathlib.Omega.{arith}
 use lib.Dec.{leb}
-use lib.ListN.{length, take, drop}
-use Rattle.std.proofs.shelf.Tests.{leb-true, leb-false, le-leb, lt-leb}
+use lib.ListN.{length}
+use Rattle.std.proofs.shelf.Tests.{leb-true, le-leb}
 use Rattle.std.specs.Options.{mapped, isSome}
-use Rattle.std.specs.Results.{isOk}
 use Rattle.std.specs.declared.option.Option.{Option}
 use Rattle.std.specs.declared.option.Option.the-variants.{Some, None}
 use Rattle.std.specs.declared.result.Result.{Result}
-use Rattle.std.specs.declared.result.Result.the-variants.{Ok, Err}
+use Rattle.std.specs.declared.result.Result.the-variants.{Ok}
 use Rattle.escape.specs.Tokens.{digit}
 use Rattle.line.specs.Forms.{is-mark}
-use Rattle.line.specs.Lines.{Message}
+use Rattle.line.specs.Lines.{Message, meant}
 use Rattle.line.specs.declared.fault.Fault.{Fault}
 use Rattle.writer.specs.Canonical.{canonical, is-address, first-formed, formed, sendable}
 use Rattle.writer.proofs.Addresses.{both, digit-is}
@@ -25,7 +24,12 @@ use Rattle.numbers.specs.Ours.{ours, all-bytes, sendable-command}
 use Rattle.numbers.specs.Slots.{pending-of, begins}
 use Rattle.numbers.specs.declared.slot.Pending.{Pending}
 use Rattle.numbers.proofs.Kept.{sendable-begins}
-use Rattle.writer.specs.Rewriting.{rewrite-fault, rewrite-answer, rewritten}
+use Rattle.writer.specs.Rewriting.{rewrite-fault, rewrite-answer}
+use Rattle.request.specs.Requests.{request-read}
+use Rattle.request.specs.Laws.{Ready}
+use Rattle.request.specs.Preparing.{Lies-ready, Prepares}
+use Rattle.request.specs.declared.preparing.Prepared.{Prepared}
+use Rattle.request.proofs.Judging.{sends}
 
 pub record Fine (m : Message) (room : ℕ) : Type 0 where
   pub fault : rewrite-fault m room ≡ None
@@ -51,5 +55,14 @@ kept-as m o p e h is = let k : Some (pending-of p) ≡ Some (begun ours m) = ap 
 pub goes-well : (l : List ℕ) (o : Option Fault) (r : Result ℕ Fault) → o ≡ None → r ≡ rewrite-answer l o → r ≡ Ok (length l)
 goes-well l o r e h = h ∙ ap (rewrite-answer l) e
 
-pub digit-of : (n : ℕ) → digit (48 + n % 10) ≡ true
+digit-of : (n : ℕ) → digit (48 + n % 10) ≡ true
 digit-of n = digit-is (48 + n % 10) (omega arith) (omega arith)
+
+-- what was read is a command that can be sent, with the number's digit for its mark
+pub read-ready : (a b : List ℕ) (n : ℕ) (m : Message) → meant m ≡ request-read a (48 + n % 10) b → Ready (48 + n % 10) m
+read-ready a b n m e = sends a b (48 + n % 10) m (digit-of n) (sym {b = request-read a (48 + n % 10) b} e)
+
+pub prepares : (a b was out : List ℕ) (n : ℕ) (m : Message) (p : Prepared) → meant m ≡ request-read a (48 + n % 10) b → Lies-ready m was out p → Prepares (request-read a (48 + n % 10) b) (48 + n % 10) was out p
+prepares a b was out n m p e lies =
+    let w = read-ready a b n m e in
+    record { message = m; means = sym {b = request-read a (48 + n % 10) b} e; mark = w .mark; sends = w .sends; lies = lies }

@@ -2,6 +2,7 @@
 ghost use mathlib.Core.Path.{_≡_};
 ghost use mathlib.Core.List.{List, [], _∷_, _++_};
 ghost use Prim.Native.Nat.{ℕ, _+_, _<_, _≤_};
+ghost use lib.Dec.{leb};
 ghost use lib.ListN.{length};
 ghost use Rattle.escape.specs.Resolving.{fitting, written};
 ghost use Rattle.writer.specs.Canonical.{in-two-digits, closed};
@@ -53,13 +54,20 @@ fn put_parts(line: &mut [u8], address: &[u8], digit: u8, body: &[u8]) -> usize
     put(line, at, body)
 }
 
+// Whether the line of a request is not too long.
+fn is_short(address: &[u8], body: &[u8]) -> bool
+    ensures { λ r. ⌜ r ≡ leb (length (now (address .entry)) + length (now (body .entry)) + 6) 1024 ⌝ }
+{
+    let room = LINE_MAX - AROUND_LEN;
+    address.len() <= room && body.len() <= room - address.len()
+}
+
 // Writes the line of a request to the buffer's front and answers its length; or writes nothing, for want of room.
 pub fn compose(address: &[u8], digit: u8, body: &[u8], line: &mut [u8; 1024]) -> Option<usize>
     ensures answer { λ r. ⌜ r ≡ fitting (composed (now (address .entry)) digit (now (body .entry))) 1024 ⌝ }
     ensures after { λ _. ⌜ now (line .exit) ≡ written (composed (now (address .entry)) digit (now (body .entry))) (now (line .entry)) ⌝ }
 {
-    let room = LINE_MAX - AROUND_LEN;
-    if address.len() > room || body.len() > room - address.len() {
+    if !is_short(address, body) {
         return None;
     }
     let at = put_parts(line, address, digit, body);

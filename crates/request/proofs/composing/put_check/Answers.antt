@@ -1,7 +1,3 @@
-use mathlib.Core.Path.{sym, _∙_}
-use mathlib.Core.List.{[], _∷_}
-use native.Mathlib.Omega.{arith}
-use borrow.Author.Needs.{needs}
 use Rattle.request.proofs.Puts.{lies-checked}
 use Rattle.request.proofs.composing.put_check.Needs as need
 

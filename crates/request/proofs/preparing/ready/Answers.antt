@@ -1,10 +1,8 @@
-use mathlib.Core.Path.{_≡_, refl, ap, sym, _∙_}
+use mathlib.Core.Path.{ap, _∙_}
 use Prim.Native.Nat.{ℕ}
 use lib.ListN.{length}
 use Rattle.std.specs.Results.{isOk}
-use Rattle.std.specs.declared.option.Option.{Option}
 use Rattle.std.specs.declared.result.Result.{Result}
-use Rattle.std.specs.declared.result.Result.the-variants.{Ok}
 use Rattle.line.specs.Meanings.{message-of}
 use Rattle.line.specs.declared.fault.Fault.{Fault}
 use Rattle.writer.specs.Canonical.{canonical}

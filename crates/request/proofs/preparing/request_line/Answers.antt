@@ -1,5 +1,3 @@
-use native.Mathlib.Omega.{arith}
-use lib.ListN.{replicate}
 use Rattle.request.specs.Requests.{composed}
 use Rattle.request.proofs.Puts.{front-is, is-long}
 use Rattle.request.proofs.preparing.request_line.Needs as need
