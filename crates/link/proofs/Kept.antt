@@ -1,12 +1,14 @@
 -- The theorem on a link's whole life, in the form in which the contract of each call cites it.
+use mathlib.Core.Path.{sym, subst}
 use mathlib.Core.Bool.{Bool}
 use mathlib.Core.List.{List, [], _∷_}
 use Prim.Native.Nat.{ℕ}
 use Rattle.std.specs.declared.result.Result.{Result}
 use Rattle.std.specs.declared.result.Result.the-variants.{Ok, Err}
+use Rattle.line.specs.Lines.{Read}
 use Rattle.line.specs.declared.fault.Fault.{Fault}
-use Rattle.life.specs.Calls.{Call, History, quiet, reset}
-use Rattle.life.specs.Link.{State, New, Does, Leads, making, Arrives, Departs, Clears, Settled, Resets, did-refuse, did-dry, did-hand, did-settle, did-reset, did-arrive, did-depart, did-clear}
+use Rattle.life.specs.Calls.{Call, History, quiet, reset, submitted}
+use Rattle.life.specs.Link.{State, New, Does, Leads, making, Arrives, Departs, Clears, Settled, Resets, did-refuse, did-submit, did-dry, did-hand, did-settle, did-reset, did-arrive, did-depart, did-clear}
 use Rattle.life.proofs.Kept.{kept}
 use Rattle.life.proofs.Kept.{lives-on as goes-on}
 use Rattle.numbers.specs.Ours.{ours}
@@ -15,6 +17,8 @@ use Rattle.numbers.specs.declared.slot.Outcome.{Outcome}
 use Rattle.numbers.proofs.Lawful.{lawful}
 use Rattle.link.specs.declared.pumped.Pumped.{Pumped}
 use Rattle.link.specs.declared.pumped.Pumped.the-variants.{Dry, Line}
+use Rattle.link.specs.declared.ticket.Ticket.{Ticket}
+use Rattle.link.specs.Submitting.{Accepts, Submitted, message-in, submit-entry}
 use Rattle.link.specs.Meanings.{pump-entry, settle-entry, arrive-entry, depart-entry, Pumps, Lives-on, Lives-on-by, Begins-life}
 
 pub begins-life : (s : State) → New s → Begins-life s
@@ -43,3 +47,12 @@ module _ (s t : State) where
 
   pub clear-lives : (value : Bool) → Clears s value t → Lives-on s quiet t
   clear-lives value d = lives-on _ (λ h. did-clear value d)
+
+  submitted-lives : (address body : List ℕ) (ticket : Ticket) (w : Accepts s address body (ticket .link) (ticket .number) t) → (h : History) → Does ours h s t (submit-entry address body (Ok ticket))
+  submitted-lives address body ticket w h =
+      let n = ticket .number in
+      subst (λ (r : Read). Does ours h s t (submitted n (message-in r))) (sym (w .means)) (did-submit n (w .message) (w .submits))
+
+  pub submit-lives : (address body : List ℕ) (r : Result Ticket Fault) → Submitted s address body r t → Lives-on s (submit-entry address body r) t
+  submit-lives address body (Err f) d = lives-on _ (λ h. did-refuse (d .0))
+  submit-lives address body (Ok ticket) d = lives-on _ (submitted-lives address body ticket d)

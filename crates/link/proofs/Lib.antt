@@ -2,3 +2,4 @@ mod Kept
 mod Marks
 mod RightKinds
 mod Pumping
+pub mod Submits

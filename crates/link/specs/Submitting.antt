@@ -22,12 +22,12 @@ use Rattle.request.specs.Requests.{request-read}
 use Rattle.request.specs.declared.preparing.Prepared.{Prepared}
 use Rattle.link.specs.declared.ticket.Ticket.{Ticket}
 
--- ---- accepted: the request, with the ticket's number for its mark, means the message that was sent
-pub record Accepts (s : State) (address body : List ℕ) (ticket : Ticket) (t : State) : Type 0 where
+-- ---- accepted: the request, with the number of the ticket for its mark, means the message that was sent
+pub record Accepts (s : State) (address body : List ℕ) (link n : ℕ) (t : State) : Type 0 where
   pub message : Message
-  pub means : request-read address (48 + ticket .number) body ≡ meant message
-  pub submits : Submits ours s (ticket .number) message t
-  pub link : ticket .link ≡ s .link
+  pub means : request-read address (48 + n) body ≡ meant message
+  pub submits : Submits ours s n message t
+  pub of-link : link ≡ s .link
 
 -- ---- refused: the first of these that applies
 pub data Why (s : State) (address body : List ℕ) : Fault → Type 0 where
@@ -40,7 +40,7 @@ pub data Why (s : State) (address body : List ℕ) : Fault → Type 0 where
       → s .port .room-out < length (canonical m) + 1 → Why s address body NoRoom
 
 abbrev pub Submitted : State → List ℕ → List ℕ → Result Ticket Fault → State → Type 0
-Submitted s address body (Ok ticket) t = Accepts s address body ticket t
+Submitted s address body (Ok ticket) t = Accepts s address body (ticket .link) (ticket .number) t
 Submitted s address body (Err f) t = (t ≡ s) × Why s address body f
 
 -- a refused submit leaves the link's whole value as it was

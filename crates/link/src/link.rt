@@ -5,6 +5,7 @@ ghost use Rattle.life.specs.Calls.{quiet, reset as reset-entry};
 ghost use Rattle.life.specs.Link.{New, Arrives, Departs, Clears, Settled, Resets};
 ghost use Rattle.numbers.specs.Slots.{outcome-of, If-foreign};
 ghost use Rattle.link.specs.Meanings.{state as state-of, pump-entry, settle-entry, arrive-entry, depart-entry, Pumps, Lives-on, Lives-on-by, Begins-life};
+ghost use Rattle.link.specs.Submitting.{Submitted, If-refused, submit-entry};
 use crate::core::Core;
 use crate::pumped::Pumped;
 use crate::ticket::Ticket;
@@ -39,6 +40,16 @@ impl<P: Port> Link<P> {
         ensures { λ r. ⌜ r ≡ state-of (P·Port .meaning (now (self .entry) .port)) (now (self .entry) .core) .link ⌝ }
     {
         self.core.number
+    }
+
+    // Sends a command, given by its address and its body with its escapes, and answers its ticket. It refuses as reading
+    // `address / digit / body / the right check` refuses, then for want of a free number, then for want of room in the port.
+    pub fn submit(&mut self, address: &[u8], body: &[u8]) -> Result<Ticket, Fault>
+        ensures does { λ r. ⌜ Submitted (state-of (P·Port .meaning (now (self .entry) .port)) (now (self .entry) .core)) (now (address .entry)) (now (body .entry)) r (state-of (P·Port .meaning (now (self .exit) .port)) (now (self .exit) .core)) ⌝ }
+        ensures refused { λ r. ⌜ If-refused r (now (self .exit) ≡ now (self .entry)) ⌝ }
+        ensures life { λ r. ⌜ Lives-on (state-of (P·Port .meaning (now (self .entry) .port)) (now (self .entry) .core)) (submit-entry (now (address .entry)) (now (body .entry)) r) (state-of (P·Port .meaning (now (self .exit) .port)) (now (self .exit) .core)) ⌝ }
+    {
+        self.do_submit(address, body)
     }
 
     // Hands out the next line that is not empty, of which at most 1,024 bytes are kept: it stands at the buffer's front.

@@ -1,15 +1,18 @@
 // What submit does: the command's line is put together first, so that a refusal leaves all as it was.
 ghost use mathlib.Core.Path.{_≡_};
-ghost use Prim.Native.Nat.{ℕ, _+_, _≤_, _<_};
+ghost use Prim.Native.Nat.{_+_, _≤_, _<_, min};
 ghost use lib.ListN.{length};
-ghost use Rattle.life.specs.Link.{Submits};
-ghost use Rattle.numbers.specs.Ours.{ours};
+ghost use Rattle.port.specs.Port.{Written};
+ghost use Rattle.life.specs.Link.{is-open, Put};
+ghost use Rattle.numbers.specs.Slots.{pending-of};
+ghost use Rattle.numbers.specs.Ten.{slots-of};
 ghost use Rattle.request.specs.Requests.{request-read};
 ghost use Rattle.link.specs.Meanings.{state as state-of};
-ghost use Rattle.link.specs.Submitting.{Submitted, If-refused, Lined, Line-ready};
+ghost use Rattle.link.specs.Submitting.{Submitted, If-refused, Lined};
 use crate::link::Link;
 use crate::ticket::Ticket;
 use line::Fault;
+use numbers::Pending;
 use port::Port;
 use request::Prepared;
 use request::prepare;
@@ -32,12 +35,16 @@ fn ready_line(address: &[u8], number: u8, body: &[u8], line: &mut [u8]) -> Resul
 }
 
 impl<P: Port> Link<P> {
-    // Writes the line, which the port has room for, and opens its number.
-    fn send(&mut self, number: u8, line: &[u8], prepared: Prepared) -> Ticket
+    // Writes the line as far as the port has room, and opens the number with its command.
+    fn send(&mut self, number: u8, line: &[u8], pending: Pending)
+        ensures port { λ _. ⌜ Written (P·Port .meaning (now (self .entry) .port)) (P·Port .meaning (now (self .exit) .port)) (now (line .entry)) (min (length (now (line .entry))) (P·Port .meaning (now (self .entry) .port) .room-out)) ⌝ }
+        ensures slots { λ _. ⌜ (number < 10 → Put (slots-of (now (self .entry) .core .numbers)) number (is-open (pending-of pending)) (slots-of (now (self .exit) .core .numbers))) ⌝ }
+        ensures recent { λ _. ⌜ (number < 10 → now (self .exit) .core .numbers .recent ≡ number) ⌝ }
+        ensures link { λ _. ⌜ now (self .exit) .core .number ≡ now (self .entry) .core .number ⌝ }
+        ensures unfinished { λ _. ⌜ now (self .exit) .core .unfinished ≡ now (self .entry) .core .unfinished ⌝ }
     {
         let _ = self.port.write(line);
-        self.core.numbers.open(number, prepared.pending);
-        Ticket { link: self.core.number, number }
+        self.core.numbers.open(number, pending);
     }
 
     pub(crate) fn do_submit(&mut self, address: &[u8], body: &[u8]) -> Result<Ticket, Fault>
@@ -59,6 +66,10 @@ impl<P: Port> Link<P> {
         if room < prepared.length + 1 {
             return Err(Fault::NoRoom);
         }
-        Ok(self.send(number, &line[0..prepared.length + 1], prepared))
+        self.send(number, &line[0..prepared.length + 1], prepared.pending);
+        Ok(Ticket {
+            link: self.core.number,
+            number,
+        })
     }
 }
