@@ -6,6 +6,5 @@ pub mod Answering
 pub mod Emitted
 pub mod NextLine
 pub mod Matching
-pub mod Ten
 pub mod Kept
 pub mod Witness

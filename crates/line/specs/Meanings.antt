@@ -19,7 +19,7 @@ use Rattle.line.specs.declared.message.Address.{Address as Place}
 use Rattle.line.specs.declared.message.Message.{Message}
 use Rattle.line.specs.declared.message.Message.the-variants.{Answer, Event, Command}
 use Rattle.line.specs.declared.fault.Fault.{Fault}
-use Rattle.line.specs.declared.fault.Fault.the-variants.{TooLong, Invisible, BadEscape, Slashes, BadAddress, BadMark, CheckForm, CheckSum, BodyEnd, FirstField, PumpBuffer, ShortBuffer, NoField}
+use Rattle.line.specs.declared.fault.Fault.the-variants.{TooLong, Invisible, BadEscape, Slashes, BadAddress, BadMark, CheckForm, CheckSum, BodyEnd, FirstField, PumpBuffer, NoNumber, NoRoom, ShortBuffer, NoField}
 use Rattle.line.specs.declared.fault.Layer.{Layer}
 use Rattle.line.specs.declared.fault.Layer.the-variants.{Line, Parts as PartsLayer, Body, Record}
 
@@ -40,6 +40,8 @@ number-of (CheckSum p) = 8
 number-of (BodyEnd p) = 9
 number-of (FirstField p) = 10
 number-of PumpBuffer = 11
+number-of NoNumber = 12
+number-of NoRoom = 13
 number-of ShortBuffer = 14
 number-of (NoField i) = 15
 
@@ -55,6 +57,8 @@ place-of (CheckSum p) = Some p
 place-of (BodyEnd p) = Some p
 place-of (FirstField p) = Some p
 place-of PumpBuffer = None
+place-of NoNumber = None
+place-of NoRoom = None
 place-of ShortBuffer = None
 place-of (NoField i) = Some i
 

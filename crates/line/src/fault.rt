@@ -37,6 +37,10 @@ pub enum Fault {
     FirstField(usize),
     // 11: the buffer given to pump has fewer than 1,024 bytes
     PumpBuffer,
+    // 12: at submit none of the ten numbers is free
+    NoNumber,
+    // 13: at submit the port has no room for the line and its end
+    NoRoom,
     // 14: the buffer is too short, or nothing was begun
     ShortBuffer,
     // 15: the message has no field of that index
@@ -59,6 +63,8 @@ impl Fault {
             Fault::BodyEnd(_) => 9,
             Fault::FirstField(_) => 10,
             Fault::PumpBuffer => 11,
+            Fault::NoNumber => 12,
+            Fault::NoRoom => 13,
             Fault::ShortBuffer => 14,
             Fault::NoField(_) => 15,
         }
@@ -80,7 +86,7 @@ impl Fault {
             | Fault::BodyEnd(place)
             | Fault::FirstField(place)
             | Fault::NoField(place) => Some(*place),
-            Fault::PumpBuffer | Fault::ShortBuffer => None,
+            Fault::PumpBuffer | Fault::NoNumber | Fault::NoRoom | Fault::ShortBuffer => None,
         }
     }
 

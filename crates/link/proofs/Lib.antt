@@ -2,5 +2,4 @@ mod Kept
 mod Marks
 mod RightKinds
 mod Pumping
-mod Passing
-mod Settling
+pub mod Submits

@@ -13,7 +13,8 @@ use Rattle.line.specs.Forms.{answer, is-mark}
 use Rattle.line.specs.Lines.{Message, Read, meant}
 use Rattle.line.specs.Meanings.{told}
 use Rattle.line.specs.declared.fault.Fault.{Fault}
-use Rattle.line.specs.declared.fault.Fault.the-variants.{TooLong}
+use Rattle.reader.specs.Cutting.{Part}
+use Rattle.life.specs.Codec.{read-part}
 use Rattle.life.specs.Calls.{Kind as Told-kind}
 use Rattle.life.specs.Calls.{fault}
 use Rattle.life.specs.Link.{Told, told-fault, told-event, told-notice, told-unknown, told-elsewhere, told-misplaced, told-more, told-last, told-late, told-late-last}
@@ -23,6 +24,7 @@ use Rattle.link.specs.declared.pumped.Kind.{Kind}
 use Rattle.link.specs.declared.pumped.Kind.the-variants.{Fault as FaultKind, Event, Notice, Stray, Misplaced, More, Last, Late, LateLast}
 use Rattle.link.specs.Meanings.{kind-of, read-told}
 use Rattle.link.specs.Steps.{digit-number, without-number, Told-as}
+use Rattle.link.proofs.Marks.{message-marked}
 
 -- a number told by a mark
 pub record Numbered (mark n : ℕ) : Type 0 where
@@ -89,12 +91,17 @@ read-again b a m (Late n) l t = refl
 read-again b a m (LateLast n) l t = refl
 
 -- ---- a line, of which so much is held
-module _ (kept : List ℕ) (over : Bool) (b a : ℕ → Standing) where
-  pub tells-long : over ≡ true → Told-as kept over b b (FaultKind TooLong)
-  tells-long e = rw e (record { told = told-fault 1 1024 (λ i. refl); read = refl })
+abbrev part : List ℕ → Bool → Part
+part kept over = record { kept = kept; over = over }
 
-  pub tells-fault : (f : Fault) → over ≡ false → told f ≡ as-answer kept → Told-as kept over b b (FaultKind f)
-  tells-fault f e is = rw e (record { told = rw (← is) (told-fault _ _ (λ i. refl)); read = is })
+pub held-marked : (kept : List ℕ) (over : Bool) (m : Message) → meant m ≡ read-part ours (part kept over) → is-mark answer (m .mark) ≡ true
+held-marked kept true m is = let z : _≡_ {A = ℕ} 0 1 = cc in absurd (omega arith)
+held-marked kept false m is = message-marked kept m is
 
-  pub tells-message : (m : Message) (k : Kind) → over ≡ false → meant m ≡ as-answer kept → Told ours b a (meant m) (kind-of k) → Told-as kept over b a k
-  tells-message m k e is t = rw e (record { told = rw (← is) t; read = read-again b a m k kept t })
+module _ (kept : List ℕ) (b a : ℕ → Standing) where
+  pub tells-fault : (over : Bool) (f : Fault) → told f ≡ read-part ours (part kept over) → Told-as kept over b b (FaultKind f)
+  tells-fault over f is = record { told = subst (λ (r : Read). Told ours b b r fault) is (told-fault _ _ (λ i. refl)); read = is }
+
+  pub tells-message : (over : Bool) (m : Message) (k : Kind) → meant m ≡ read-part ours (part kept over) → Told ours b a (meant m) (kind-of k) → Told-as kept over b a k
+  tells-message true m k is t = let z : _≡_ {A = ℕ} 0 1 = cc in absurd (omega arith)
+  tells-message false m k is t = record { told = subst (λ (r : Read). Told ours b a r (kind-of k)) is t; read = read-again b a m k kept t ∙ refl }

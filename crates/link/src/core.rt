@@ -3,6 +3,7 @@ use numbers::Numbers;
 use reader::Unfinished;
 
 mod hand_out;
+mod made;
 
 #[derive(Drop)]
 pub struct Core {

@@ -5,16 +5,16 @@ ghost use Rattle.life.specs.Calls.{quiet, reset as reset-entry};
 ghost use Rattle.life.specs.Link.{New, Arrives, Departs, Clears, Settled, Resets};
 ghost use Rattle.numbers.specs.Slots.{outcome-of, If-foreign};
 ghost use Rattle.link.specs.Meanings.{state as state-of, pump-entry, settle-entry, arrive-entry, depart-entry, Pumps, Lives-on, Lives-on-by, Begins-life};
+ghost use Rattle.link.specs.Submitting.{Submitted, If-refused, submit-entry};
 use crate::core::Core;
 use crate::pumped::Pumped;
 use crate::ticket::Ticket;
 use line::Fault;
-use line::LINE_MAX;
-use numbers::Numbers;
 use numbers::Outcome;
 use port::Port;
-use reader::Unfinished;
-use reader::next_line;
+
+mod steps;
+mod submitting;
 
 #[derive(Drop)]
 pub struct Link<P> {
@@ -32,11 +32,7 @@ impl<P: Port> Link<P> {
     {
         Link {
             port,
-            core: Core {
-                number,
-                unfinished: Unfinished::new(),
-                numbers: Numbers::new(),
-            },
+            core: Core::new(number),
         }
     }
 
@@ -46,6 +42,16 @@ impl<P: Port> Link<P> {
         self.core.number
     }
 
+    // Sends a command, given by its address and its body with its escapes, and answers its ticket. It refuses as reading
+    // `address / digit / body / the right check` refuses, then for want of a free number, then for want of room in the port.
+    pub fn submit(&mut self, address: &[u8], body: &[u8]) -> Result<Ticket, Fault>
+        ensures does { λ r. ⌜ Submitted (state-of (P·Port .meaning (now (self .entry) .port)) (now (self .entry) .core)) (now (address .entry)) (now (body .entry)) r (state-of (P·Port .meaning (now (self .exit) .port)) (now (self .exit) .core)) ⌝ }
+        ensures refused { λ r. ⌜ If-refused r (now (self .exit) ≡ now (self .entry)) ⌝ }
+        ensures life { λ r. ⌜ Lives-on (state-of (P·Port .meaning (now (self .entry) .port)) (now (self .entry) .core)) (submit-entry (now (address .entry)) (now (body .entry)) r) (state-of (P·Port .meaning (now (self .exit) .port)) (now (self .exit) .core)) ⌝ }
+    {
+        self.do_submit(address, body)
+    }
+
     // Hands out the next line that is not empty, of which at most 1,024 bytes are kept: it stands at the buffer's front.
     // Refuses a buffer of fewer than 1,024 bytes.
     pub fn pump(&mut self, buffer: &mut [u8]) -> Result<Pumped, Fault>
@@ -53,13 +59,7 @@ impl<P: Port> Link<P> {
         ensures refused { λ r. ⌜ elim r [ Ok p ↦ Unit {0} | Err f ↦ (f ≡ Fault.PumpBuffer) × (now (self .exit) ≡ now (self .entry)) ] ⌝ }
         ensures life { λ r. ⌜ Lives-on (state-of (P·Port .meaning (now (self .entry) .port)) (now (self .entry) .core)) (pump-entry r (now (buffer .exit))) (state-of (P·Port .meaning (now (self .exit) .port)) (now (self .exit) .core)) ⌝ }
     {
-        if buffer.len() < LINE_MAX {
-            return Err(Fault::PumpBuffer);
-        }
-        if !next_line(&mut self.port, &mut self.core.unfinished) {
-            return Ok(Pumped::Dry);
-        }
-        Ok(self.core.hand_out(buffer))
+        self.do_pump(buffer)
     }
 
     // Spends the ticket. A number that is answered or lost becomes free, and one that is open is given up.
@@ -69,11 +69,7 @@ impl<P: Port> Link<P> {
         ensures foreign { λ r. ⌜ If-foreign r (now (self .exit) ≡ now (self .entry)) ⌝ }
         ensures life { λ r. ⌜ Lives-on-by (ticket .link) (ticket .number) (state-of (P·Port .meaning (now (self .entry) .port)) (now (self .entry) .core)) (settle-entry (ticket .link) (ticket .number) r) (state-of (P·Port .meaning (now (self .exit) .port)) (now (self .exit) .core)) ⌝ }
     {
-        let Ticket { link, number } = ticket;
-        if link != self.core.number {
-            return Outcome::Foreign;
-        }
-        self.core.numbers.settle(number)
+        self.do_settle(ticket)
     }
 
     // Hangs up the port, drops the unfinished line, ends every command, and answers how many open numbers became lost by that.
@@ -81,9 +77,7 @@ impl<P: Port> Link<P> {
         ensures does { λ r. ⌜ Resets (state-of (P·Port .meaning (now (self .entry) .port)) (now (self .entry) .core)) r (state-of (P·Port .meaning (now (self .exit) .port)) (now (self .exit) .core)) ⌝ }
         ensures life { λ r. ⌜ Lives-on (state-of (P·Port .meaning (now (self .entry) .port)) (now (self .entry) .core)) (reset-entry r) (state-of (P·Port .meaning (now (self .exit) .port)) (now (self .exit) .core)) ⌝ }
     {
-        self.port.hangup();
-        self.core.unfinished.clear();
-        self.core.numbers.reset() as usize
+        self.do_reset()
     }
 
     // Bytes from the line: the port takes as many as it has room for.
@@ -91,7 +85,7 @@ impl<P: Port> Link<P> {
         ensures does { λ k. ⌜ Arrives (state-of (P·Port .meaning (now (self .entry) .port)) (now (self .entry) .core)) (now (bytes .entry)) k (state-of (P·Port .meaning (now (self .exit) .port)) (now (self .exit) .core)) ⌝ }
         ensures life { λ k. ⌜ Lives-on (state-of (P·Port .meaning (now (self .entry) .port)) (now (self .entry) .core)) (arrive-entry (now (bytes .entry)) k) (state-of (P·Port .meaning (now (self .exit) .port)) (now (self .exit) .core)) ⌝ }
     {
-        self.port.arrive(bytes)
+        self.do_arrive(bytes)
     }
 
     // Bytes to the line: the port moves them to the buffer's front.
@@ -99,7 +93,7 @@ impl<P: Port> Link<P> {
         ensures does { λ k. ⌜ Departs (state-of (P·Port .meaning (now (self .entry) .port)) (now (self .entry) .core)) (now (buffer .entry)) (now (buffer .exit)) k (state-of (P·Port .meaning (now (self .exit) .port)) (now (self .exit) .core)) ⌝ }
         ensures life { λ k. ⌜ Lives-on (state-of (P·Port .meaning (now (self .entry) .port)) (now (self .entry) .core)) (depart-entry k (now (buffer .exit))) (state-of (P·Port .meaning (now (self .exit) .port)) (now (self .exit) .core)) ⌝ }
     {
-        self.port.depart(buffer)
+        self.do_depart(buffer)
     }
 
     // Whether it is clear to send.
@@ -107,6 +101,6 @@ impl<P: Port> Link<P> {
         ensures does { λ _. ⌜ Clears (state-of (P·Port .meaning (now (self .entry) .port)) (now (self .entry) .core)) value (state-of (P·Port .meaning (now (self .exit) .port)) (now (self .exit) .core)) ⌝ }
         ensures life { λ _. ⌜ Lives-on (state-of (P·Port .meaning (now (self .entry) .port)) (now (self .entry) .core)) quiet (state-of (P·Port .meaning (now (self .exit) .port)) (now (self .exit) .core)) ⌝ }
     {
-        self.port.clear(value);
+        self.do_clear(value);
     }
 }

@@ -4,6 +4,7 @@ ghost use mathlib.Core.Bool.{true};
 ghost use Rattle.line.specs.Forms.{answer, is-mark};
 ghost use Rattle.line.specs.Lines.{meant};
 ghost use Rattle.line.specs.Meanings.{message-of, read-of};
+ghost use Rattle.life.specs.Codec.{read-part};
 ghost use Rattle.life.specs.Link.{Told};
 ghost use Rattle.numbers.specs.Ours.{as-answer, ours};
 ghost use Rattle.numbers.specs.Slots.{kind-of as matched-kind};
@@ -80,15 +81,22 @@ fn tell(message: &Message<'_>, numbers: &mut Numbers) -> Kind
     kind_with_number(number, numbers.told(number, message))
 }
 
-// Tells a line, of which the first bytes are held, and more of it came or not.
+// Reads a line, of which the first bytes are held, and more of it came or not.
+fn read_held(held: &[u8], over: bool) -> Result<Message<'_>, Fault>
+    ensures { λ r. ⌜ read-of r ≡ read-part ours (record { kept = now (held .entry); over = over }) ⌝ }
+{
+    if over {
+        return Err(Fault::TooLong);
+    }
+    read_answer(held)
+}
+
+// Tells such a line.
 pub fn kind_of(held: &[u8], over: bool, numbers: &mut Numbers) -> Kind
     ensures told { λ r. ⌜ Told-as (now (held .entry)) over (slots-of (now (numbers .entry))) (slots-of (now (numbers .exit))) r ⌝ }
     ensures recent { λ _. ⌜ now (numbers .exit) .recent ≡ now (numbers .entry) .recent ⌝ }
 {
-    if over {
-        return Kind::Fault(Fault::TooLong);
-    }
-    match read_answer(held) {
+    match read_held(held, over) {
         Ok(message) => tell(&message, numbers),
         Err(fault) => Kind::Fault(fault),
     }

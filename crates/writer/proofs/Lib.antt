@@ -3,4 +3,5 @@ pub mod Backs
 pub mod Growing
 pub mod Opening
 pub mod Shorter
-pub mod Again
+pub mod Repeating
+pub mod Pieces

@@ -111,6 +111,7 @@ module _ (side : Side) (address first : List ℕ) (mark room : ℕ) where
       by-read false p q0 q r0 r e = let z : _≡_ {A = ℕ} 0 1 = cc in absurd (omega arith)
 
   pub opened : (was out : List ℕ) (n : ℕ) → Formed-head → 0 < n → Lies was (head-text address mark ++ (first ++ (58 ∷ []))) out n → Opened was (begun side address mark first) out n
+  unfolding begun
   opened was out n w some lies = go (address-of side address) refl (w .read)
     where
       go : (o : Option Address) → address-of side address ≡ o → isSome o ≡ true → Opened was (record { side = side; address = address-read o; mark = mark; fields = first ∷ [] }) out n
@@ -142,6 +143,7 @@ first-kept side [] f e = never e
 first-kept side (g ∷ fs) f e = e
 
 pub added : (was out new : List ℕ) (n k : ℕ) (m : Message) (f : List ℕ) → Every (λ b. b < 256) f → 0 < k → Opened was m out n → Lies was ((unclosed m ++ spelling f) ++ (58 ∷ [])) new k → Opened was (with-field m f) new k
+unfolding with-field
 added was out new n k m f hb some o lies =
     let g = both (is-address (m .side) (m .address)) _ (o .form) in
     let h = both (is-mark (m .side) (m .mark)) (first-formed (m .side) (m .fields)) (g .1) in

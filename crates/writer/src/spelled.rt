@@ -18,7 +18,7 @@ pub(crate) fn numeral(b: u8) -> [u8; 5]
     ]
 }
 
-fn spelled_len(b: u8) -> usize
+pub(crate) fn spelled_len(b: u8) -> usize
     ensures { λ r. ⌜ r ≡ length (spelled b) ⌝ }
 {
     match b {

@@ -22,7 +22,7 @@ use line::is_first_field;
 use line::is_mark;
 
 // The slash, and the two digits of the check.
-const CHECK_LEN: usize = 3;
+pub(crate) const CHECK_LEN: usize = 3;
 
 impl<'a> Writer<'a> {
     // A writer over the buffer, with no line open.
@@ -80,6 +80,7 @@ impl<'a> Writer<'a> {
     // Closes the line and answers its length, or 0 if none is open.
     pub fn close(self) -> usize
         ensures closed { λ r. ⌜ ((was : List ℕ) (m : Message) → Opened was m (now (self .entry .out)) (self .entry .len) → Closed was m (now (self .exit .0)) r) ⌝ }
+        ensures lies { λ r. ⌜ ((was l : List ℕ) → 0 < self .entry .len → Lies was l (now (self .entry .out)) (self .entry .len) → Lies was (closed l) (now (self .exit .0)) r) ⌝ }
         ensures none { λ r. ⌜ (self .entry .len ≡ 0 → (r ≡ 0) × (now (self .exit .0) ≡ now (self .entry .out))) ⌝ }
     {
         let Writer { out, len } = self;
@@ -100,7 +101,7 @@ impl<'a> Writer<'a> {
         self.push(b':');
     }
 
-    fn push(&mut self, b: u8)
+    pub(crate) fn push(&mut self, b: u8)
         requires { ⌜ now self .len + 4 ≤ length (now (now self .out)) ⌝ ∗ ⌜ now self .len + 4 ≤ 1024 ⌝ }
         ensures len { λ _. ⌜ now (self .exit) .len ≡ now (self .entry) .len + 1 ⌝ }
         ensures room { λ _. ⌜ length (now (now (self .exit) .out)) ≡ length (now (now (self .entry) .out)) ⌝ }
@@ -112,7 +113,7 @@ impl<'a> Writer<'a> {
         self.len = at + 1;
     }
 
-    fn push_all(&mut self, bytes: &[u8])
+    pub(crate) fn push_all(&mut self, bytes: &[u8])
         requires { ⌜ now self .len + length (now bytes) + 3 ≤ length (now (now self .out)) ⌝ ∗ ⌜ now self .len + length (now bytes) + 3 ≤ 1024 ⌝ }
         ensures len { λ _. ⌜ now (self .exit) .len ≡ now (self .entry) .len + length (now (bytes .entry)) ⌝ }
         ensures room { λ _. ⌜ length (now (now (self .exit) .out)) ≡ length (now (now (self .entry) .out)) ⌝ }
@@ -124,7 +125,7 @@ impl<'a> Writer<'a> {
         }
     }
 
-    fn push_spelled(&mut self, b: u8)
+    pub(crate) fn push_spelled(&mut self, b: u8)
         requires { ⌜ now self .len + length (spelled b) + 3 ≤ length (now (now self .out)) ⌝ ∗ ⌜ now self .len + length (spelled b) + 3 ≤ 1024 ⌝ }
         ensures len { λ _. ⌜ now (self .exit) .len ≡ now (self .entry) .len + length (spelled b) ⌝ }
         ensures room { λ _. ⌜ length (now (now (self .exit) .out)) ≡ length (now (now (self .entry) .out)) ⌝ }

@@ -1,4 +1,4 @@
-use Rattle.writer.proofs.Again.{one-message}
+use Rattle.writer.proofs.Repeating.{one-message}
 use Rattle.writer.proofs.laws.one_message_a_line.Needs as need
 
 pub returns : need.returns

@@ -1,4 +1,4 @@
-use Rattle.writer.proofs.Again.{writes-again}
+use Rattle.writer.proofs.Repeating.{writes-again}
 use Rattle.writer.proofs.laws.read_writes_again.Needs as need
 
 pub returns : need.returns

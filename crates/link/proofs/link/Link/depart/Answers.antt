@@ -1,5 +1,11 @@
-use Rattle.link.proofs.Passing.{departs}
+use Rattle.link.specs.Meanings.{state}
+use Rattle.link.proofs.Kept.{depart-lives}
 use Rattle.link.proofs.link.Link.depart.Needs as need
 
 pub returns : need.returns
-returns g c = departs (g .P·Port .meaning (c .args .self .now .port)) (g .P·Port .meaning (c .depart .last .self)) (c .args .self .now .core) (c .args .buffer .now) (c .depart .last .buffer) (c .depart .result) (c .depart .ensures)
+returns g c = record {
+  does = c .do-depart .ensures;
+  life = depart-lives (state (g .P·Port .meaning (c .args .self .now .port)) (c .args .self .now .core))
+      (state (g .P·Port .meaning (c .do-depart .last .self .port)) (c .do-depart .last .self .core))
+      (c .args .buffer .now) (c .do-depart .last .buffer) (c .do-depart .result) (c .do-depart .ensures);
+}
