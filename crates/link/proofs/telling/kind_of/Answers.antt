@@ -14,7 +14,7 @@ tell-requires c κs = message-marked (c .args .held .now) (message-of (c .in-Ok 
 pub returns-in-Ok : need.returns-in-Ok
 returns-in-Ok c = record {
   told = tells-message (c .args .held .now) (c .args .over) (slots-of (c .args .numbers .now)) (slots-of (c .tell .last .numbers)) (message-of (c .in-Ok .message)) (c .tell .result)
-      (c .if-over .left) (c .in-Ok .ensures tt) (c .tell .ensures .told);
+    (c .if-over .left) (c .in-Ok .ensures tt) (c .tell .ensures .told);
   recent = c .tell .ensures .recent;
 }
 
