@@ -40,14 +40,20 @@ fn every_byte() -> Result<(), Fail> {
 fn longest() -> Result<(), Fail> {
     let mut out = [0; 1100];
     check(matches!(command_line(&mut out, '1', b"A", &[b'a'; 1013]), Ok(1024)))?;
-    check(matches!(command_line(&mut out, '1', b"A", &[b'a'; 1014]), Err(Fault::TooLong)))
+    check(matches!(
+        command_line(&mut out, '1', b"A", &[b'a'; 1014]),
+        Err(Fault::TooLong)
+    ))
 }
 
 // A buffer of just the bytes that are needed, and one that is a byte shorter; an empty field.
 #[test]
 fn room() -> Result<(), Fail> {
     let mut out = [0; 12];
-    check(matches!(command_line(&mut out, '1', b"A", b":"), Err(Fault::ShortBuffer)))?;
+    check(matches!(
+        command_line(&mut out, '1', b"A", b":"),
+        Err(Fault::ShortBuffer)
+    ))?;
     check(matches!(command_line(&mut out, '1', b"A", b"b"), Ok(12)))?;
     check(matches!(command_line(&mut out, '1', b"A", b""), Ok(11)))?;
     check(&out[0..8] == b"01/1/A::")
@@ -58,7 +64,10 @@ fn room() -> Result<(), Fail> {
 fn names() -> Result<(), Fail> {
     let mut out = [0; 100];
     check(matches!(command_line(&mut out, '1', &[b'A'; 64], b""), Ok(74)))?;
-    check(matches!(command_line(&mut out, '1', &[b'A'; 65], b""), Err(Fault::FirstField(5))))?;
+    check(matches!(
+        command_line(&mut out, '1', &[b'A'; 65], b""),
+        Err(Fault::FirstField(5))
+    ))?;
     let mut writer = Writer::over(&mut out);
     check(matches!(writer.add(b"b"), Err(Fault::ShortBuffer)))?;
     check(writer.close() == 0)
