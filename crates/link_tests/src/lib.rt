@@ -1,3 +1,5 @@
 // Tests of a link over a serial port.
 #[cfg(test)]
+mod arriving;
+#[cfg(test)]
 mod pumping;
