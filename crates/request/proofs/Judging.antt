@@ -278,8 +278,8 @@ module _ (a b : List ℕ) where
       go (Some x) e =
           refused 9 (length p + 1 + 1 + 1)
           (λ d h. by-parts (λ d. in-two p (y ++ digits a b d) None d) all d h
-              ∙ good-parts (in-two p (y ++ digits a b d) None d) (take (check-place (in-two p (y ++ digits a b d) None d)) (composed a d b)) x d e (mark-is d h) refl
-              ∙ no-body x d (in-two p (y ++ digits a b d) None d) (ap (λ (s : List ℕ). fields-of (s ++ digits a b d)) (w .text-b) ∙ w .open-end d h))
+          ∙ good-parts (in-two p (y ++ digits a b d) None d) (take (check-place (in-two p (y ++ digits a b d) None d)) (composed a d b)) x d e (mark-is d h) refl
+          ∙ no-body x d (in-two p (y ++ digits a b d) None d) (ap (λ (s : List ℕ). fields-of (s ++ digits a b d)) (w .text-b) ∙ w .open-end d h))
 
   long-check : (p y : List ℕ) (z : ℕ) (zs : List ℕ) → Whole a b (p ∷ [] ∷ []) (y ∷ (z ∷ zs) ∷ []) → Judged a b
   long-check p y z zs w = go (address-of command p) refl
@@ -299,9 +299,9 @@ module _ (a b : List ℕ) where
       let summed = (head-text a d ++ b) ++ (47 ∷ []) in
       let place = length p + 1 + 1 + 1 + length y + 1 in
       let front : take place (composed a d b) ≡ summed =
-          ap (take place) (sym (append-assoc (head-text a d ++ b) (47 ∷ []) (digits a b d)))
-          ∙ take-at summed (digits a b d) place
-          (omega (arith, ap length ep, ap length ey, length-append (head-text a d ++ b) (47 ∷ []), length-append (head-text a d) b, length-append a (47 ∷ d ∷ 47 ∷ []))) in
+      ap (take place) (sym (append-assoc (head-text a d ++ b) (47 ∷ []) (digits a b d)))
+      ∙ take-at summed (digits a b d) place
+      (omega (arith, ap length ep, ap length ey, length-append (head-text a d ++ b) (47 ∷ []), length-append (head-text a d) b, length-append a (47 ∷ d ∷ 47 ∷ []))) in
       ap (λ (s : List ℕ). check-fault s (Some (digits a b d))) front
       ∙ ap (λ (o : Option ℕ). sum-fault o (check-of summed)) (two-back (check-of summed) (omega arith))
       ∙ rw (eq-eqb (check-of summed) (check-of summed) refl)
@@ -370,7 +370,7 @@ module _ (a b : List ℕ) where
         let at = past-some ta (1 + (1 + q)) in
         refused 3 (at .0)
         (λ d h. broken-read (composed a d b) (at .0) (short-line d short) (seen-line d h ∙ seen)
-            (ap first-broken (after-mark d h) ∙ broken-past ta _ ∙ ap (λ (o : Option ℕ). past ta (further 1 (further 1 o))) (f (digits a b d)) ∙ at .1))
+        (ap first-broken (after-mark d h) ∙ broken-past ta _ ∙ ap (λ (o : Option ℕ). past ta (further 1 (further 1 o))) (f (digits a b d)) ∙ at .1))
 
     module _ (none-a : first-broken ta ≡ None) (text-a : text ta ≡ a ++ (47 ∷ [])) (tb : List Token) (goes-b : (u : List ℕ) → tokens (b ++ (47 ∷ u)) ≡ tb ++ tokens u) (none-b : first-broken tb ≡ None) (text-b : text tb ≡ b ++ (47 ∷ [])) where
       end-tokens : (d : ℕ) → tokens (b ++ (47 ∷ digits a b d)) ≡ tb ++ plain-digits a b d
@@ -384,24 +384,24 @@ module _ (a b : List ℕ) where
         short = short;
         seen = λ d h. seen-line d h ∙ seen;
         unbroken = λ d h.
-          ap first-broken (all-tokens d h) ∙ broken-past ta _
-          ∙ ap (λ (o : Option ℕ). past ta (further 1 (further 1 o))) (broken-past tb _ ∙ past-none tb ∙ none-b) ∙ past-none ta ∙ none-a;
+            ap first-broken (all-tokens d h) ∙ broken-past ta _
+            ∙ ap (λ (o : Option ℕ). past ta (further 1 (further 1 o))) (broken-past tb _ ∙ past-none tb ∙ none-b) ∙ past-none ta ∙ none-a;
         cut = λ d h.
-          let t = digits-tame d in
-          ap (parts-of 47) (all-tokens d h) ∙ parts-glue 47 ta _
-          ∙ ap (glue (parts-of 47 ta))
-          (parts-other 47 d (plain 47 ∷ (tb ++ plain-digits a b d)) (tame-digit d h .3) ∙ ap (ahead (d ∷ [])) (parts-here 47 47 (tb ++ plain-digits a b d) refl)
-          ∙ ap (λ (ps : List (List ℕ)). (d ∷ []) ∷ ps) (parts-glue 47 tb (plain-digits a b d) ∙ ap (glue (parts-of 47 tb)) (digits-part 47 _ _ (t .0 .3) (t .1 .0 .3))));
+            let t = digits-tame d in
+            ap (parts-of 47) (all-tokens d h) ∙ parts-glue 47 ta _
+            ∙ ap (glue (parts-of 47 ta))
+            (parts-other 47 d (plain 47 ∷ (tb ++ plain-digits a b d)) (tame-digit d h .3) ∙ ap (ahead (d ∷ [])) (parts-here 47 47 (tb ++ plain-digits a b d) refl)
+            ∙ ap (λ (ps : List (List ℕ)). (d ∷ []) ∷ ps) (parts-glue 47 tb (plain-digits a b d) ∙ ap (glue (parts-of 47 tb)) (digits-part 47 _ _ (t .0 .3) (t .1 .0 .3))));
         some-a = parts-cons 47 ta;
         some-b = parts-cons 47 tb;
         text-a = parts-text 47 ta ∙ text-a;
         text-b = parts-text 47 tb ∙ text-b;
         open-end = λ d h.
-          let t = digits-tame d in
-          ap (λ (s : List ℕ). fields-of s) (append-assoc b (47 ∷ []) (digits a b d))
-          ∙ ap (λ (ts : List Token). first-and-later (all-ended (parts-of 58 ts))) (end-tokens d)
-          ∙ ap (λ (ps : List (List ℕ)). first-and-later (all-ended ps)) (parts-glue 58 tb (plain-digits a b d) ∙ ap (glue (parts-of 58 tb)) (digits-part 58 _ _ (t .0 .2) (t .1 .0 .2)))
-          ∙ ap first-and-later (unended (parts-of 58 tb) _ _);
+            let t = digits-tame d in
+            ap (λ (s : List ℕ). fields-of s) (append-assoc b (47 ∷ []) (digits a b d))
+            ∙ ap (λ (ts : List Token). first-and-later (all-ended (parts-of 58 ts))) (end-tokens d)
+            ∙ ap (λ (ps : List (List ℕ)). first-and-later (all-ended ps)) (parts-glue 58 tb (plain-digits a b d) ∙ ap (glue (parts-of 58 tb)) (digits-part 58 _ _ (t .0 .2) (t .1 .0 .2)))
+            ∙ ap first-and-later (unended (parts-of 58 tb) _ _);
       }
 
   by-ends : length a + length b + 6 ≤ 1024 → first-invisible (row a b 48 48 48) ≡ None → Ends a → Ends b → Judged a b

@@ -28,8 +28,8 @@ lies-put was l out bs ys at k h same size o =
     let here : length l + k ≡ length (l ++ bs) = omega arith in
     let behind : drop k (drop at out) ≡ rest = ap (drop k) back ∙ drop-drop k (length l) was ∙ ap (λ (n : ℕ). drop n was) here in
     let held : putMid at k out ys ≡ (l ++ bs) ++ rest =
-        ap (λ (x : List ℕ). x ++ (ys ++ drop k (drop at out))) front ∙ ap (λ (x : List ℕ). l ++ (x ++ drop k (drop at out))) same
-        ∙ ap (λ (x : List ℕ). l ++ (bs ++ x)) behind ∙ sym (append-assoc l bs rest) in
+    ap (λ (x : List ℕ). x ++ (ys ++ drop k (drop at out))) front ∙ ap (λ (x : List ℕ). l ++ (x ++ drop k (drop at out))) same
+    ∙ ap (λ (x : List ℕ). l ++ (bs ++ x)) behind ∙ sym (append-assoc l bs rest) in
     record {
       len = omega arith;
       held = held;

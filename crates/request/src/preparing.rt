@@ -11,13 +11,13 @@ ghost use Rattle.numbers.specs.Ours.{sendable-command};
 ghost use Rattle.request.specs.Requests.{composed, request-read};
 ghost use Rattle.request.specs.Preparing.{Lies-ready, Outcome};
 use crate::composing::compose;
-use writer::rewrite;
 use line::Fault;
 use line::LINE_MAX;
 use line::Message;
 use line::Side;
 use line::read;
 use numbers::Pending;
+use writer::rewrite;
 
 // A command that is ready to be sent: the length of its line, and what a link keeps of it until it is answered.
 #[derive(Clone, Copy)]
@@ -37,7 +37,12 @@ fn ready(message: &Message<'_>, out: &mut [u8]) -> Prepared
 }
 
 // The line of a request, put together in the buffer, if it is not too long.
-fn request_line<'a>(address: &[u8], digit: u8, body: &[u8], buffer: &'a mut [u8; 1024]) -> Option<&'a [u8]>
+fn request_line<'a>(
+    address: &[u8],
+    digit: u8,
+    body: &[u8],
+    buffer: &'a mut [u8; 1024],
+) -> Option<&'a [u8]>
     ensures { λ r. ⌜ elim r [ Some line ↦ now line ≡ composed (now (address .entry)) digit (now (body .entry)) | None ↦ 1024 < length (composed (now (address .entry)) digit (now (body .entry))) ] ⌝ }
 {
     match compose(address, digit, body, buffer) {
@@ -47,7 +52,12 @@ fn request_line<'a>(address: &[u8], digit: u8, body: &[u8], buffer: &'a mut [u8;
 }
 
 // Reads the request with that digit for its mark.
-fn read_request<'a>(address: &[u8], digit: u8, body: &[u8], buffer: &'a mut [u8; 1024]) -> Result<Message<'a>, Fault>
+fn read_request<'a>(
+    address: &[u8],
+    digit: u8,
+    body: &[u8],
+    buffer: &'a mut [u8; 1024],
+) -> Result<Message<'a>, Fault>
     ensures { λ r. ⌜ read-of r ≡ request-read (now (address .entry)) digit (now (body .entry)) ⌝ }
 {
     match request_line(address, digit, body, buffer) {

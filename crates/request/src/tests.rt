@@ -6,7 +6,10 @@ use std::test::*;
 fn writes(address: &[u8], number: u8, body: &[u8], line: &[u8]) -> bool {
     let mut out = [0u8; 1024];
     match prepare(address, number, body, &mut out) {
-        Ok(prepared) => prepared.length <= 1024 && same_bytes(&out[0..prepared.length], line),
+        Ok(prepared) => {
+            let len = prepared.length;
+            len <= 1024 && same_bytes(&out[0..len], line)
+        }
         Err(_) => false,
     }
 }
@@ -15,7 +18,12 @@ fn writes(address: &[u8], number: u8, body: &[u8], line: &[u8]) -> bool {
 fn written_in_one_way() -> Result<(), Fail> {
     check(writes(b"01", 1, b"DOWN:", b"01/1/DOWN:/57"))?;
     check(writes(b"01", 7, b"A:\\d065:", b"01/7/A:A:/39"))?;
-    check(writes(b"#0123456789AB.02", 3, b"BROWSE:x\\:y:", b"#0123456789AB.02/3/BROWSE:x\\:y:/00"))
+    check(writes(
+        b"#0123456789AB.02",
+        3,
+        b"BROWSE:x\\:y:",
+        b"#0123456789AB.02/3/BROWSE:x\\:y:/00",
+    ))
 }
 
 fn refusal(address: &[u8], number: u8, body: &[u8]) -> Option<(u8, Option<usize>)> {

@@ -10,5 +10,5 @@ pub returns-in-Ok : need.returns-in-Ok
 returns-in-Ok c = record {
   room = λ h. absurd (omega arith);
   outcome = λ h.
-    prepares (c .args .address .now) (c .args .body .now) (c .args .out .now) (c .ready .last .out) (c .args .number) (message-of (c .in-Ok .message)) (c .ready .result) (c .in-Ok .ensures tt) (c .ready .ensures);
+      prepares (c .args .address .now) (c .args .body .now) (c .args .out .now) (c .ready .last .out) (c .args .number) (message-of (c .in-Ok .message)) (c .ready .result) (c .in-Ok .ensures tt) (c .ready .ensures);
 }
