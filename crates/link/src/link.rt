@@ -6,10 +6,12 @@ ghost use Rattle.link.specs.Meanings.{state as state-of, entry as entry-of, Pu
 use crate::core::Core;
 use crate::pumped::Pumped;
 use line::Fault;
+use line::LINE_MAX;
 use port::Port;
 use reader::Unfinished;
 use reader::next_line;
 
+#[derive(Drop)]
 pub struct Link<P> {
     port: P,
     core: Core,
@@ -32,7 +34,7 @@ impl<P: Port> Link<P> {
     }
 
     pub fn number(&self) -> u16
-        ensures { λ r. ⌜ r ≡ now (self .entry) .core .number ⌝ }
+        ensures { λ r. ⌜ r ≡ state-of (P·Port .meaning (now (self .entry) .port)) (now (self .entry) .core) .link ⌝ }
     {
         self.core.number
     }
@@ -44,7 +46,7 @@ impl<P: Port> Link<P> {
         ensures refused { λ r. ⌜ elim r [ Ok p ↦ Unit {0} | Err f ↦ (f ≡ Fault.PumpBuffer) × (now (self .exit) ≡ now (self .entry)) ] ⌝ }
         ensures life { λ r. ⌜ Lives-on (state-of (P·Port .meaning (now (self .entry) .port)) (now (self .entry) .core)) (entry-of r (now (buffer .exit))) (state-of (P·Port .meaning (now (self .exit) .port)) (now (self .exit) .core)) ⌝ }
     {
-        if buffer.len() < 1024 {
+        if buffer.len() < LINE_MAX {
             return Err(Fault::PumpBuffer);
         }
         if !next_line(&mut self.port, &mut self.core.unfinished) {

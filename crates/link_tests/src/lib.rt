@@ -1,0 +1,3 @@
+// Tests of a link over a serial port.
+#[cfg(test)]
+mod pumping;
