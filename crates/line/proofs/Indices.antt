@@ -92,7 +92,7 @@ meant-later (Some g) zero f e z = absurd (z refl)
 meant-later (Some g) (suc n) f e z = sym (nth-map (g .1) n ∙ ap (mapped resolved) (sym e))
 
 -- ---- a field of a message, written to a buffer
-message-fields : (m : Message) → message-of m .fields ≡ body-fields (fields-of (body-of m))
+pub message-fields : (m : Message) → message-of m .fields ≡ body-fields (fields-of (body-of m))
 message-fields (Answer a m b) = refl
 message-fields (Event a b) = refl
 message-fields (Command a m b c) = refl
