@@ -1,5 +1,6 @@
-pub mod Cutting
-pub mod Fitting
-pub mod InOrder
-pub mod Kept
+mod Kept
+mod Marks
+mod RightKinds
 mod Pumping
+mod Passing
+mod Settling

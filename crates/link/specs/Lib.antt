@@ -1,6 +1,3 @@
--- A link: its state, what its calls do to that, and what is promised of its whole life. To be read in this order.
-pub mod Lines
-pub mod Calls
-pub mod Promises
-pub mod States
+-- What the values of a link mean in the words of its whole life, and what its calls answer. To be read in this order.
 pub mod Meanings
+pub mod Steps

@@ -8,7 +8,7 @@ use lib.ListN.{length, take, drop}
 use borrow.Author.Needs.{needs}
 use Rattle.std.proofs.shelf.Lists.{same-lists, places, append-assoc, append-nil}
 use Rattle.port.specs.Port.{Meaning, Arrived, Departed, Fetched, Written, Cleared}
-use Rattle.port.specs.Runs.{Call, Arrive, Depart, Read, Write, Room, Clear, History, Ran, begun, arrive, depart, read, write, room, clear, moved, traffic, Kept, Kept-in-order}
+use Rattle.port.specs.Runs.{Call, Arrive, Depart, Read, Write, Room, Clear, History, Ran, begun, arrive, depart, read, write, room, clear, moved, traffic, Kept, Keeps}
 
 -- One more step of one side: `gone` left it and `come` joined it.
 side-step : (start was now out into gone come : List ℕ) → out ++ was ≡ start ++ into → gone ++ now ≡ was ++ come → (out ++ gone) ++ now ≡ start ++ (into ++ come)
@@ -57,11 +57,14 @@ kept-then start m z h c r s = record {
   outgoing = side-step (start .outgoing) (m .outgoing) (z .outgoing) (traffic h .departed) (traffic h .written) (moved c .departed) (moved c .written) (r .outgoing) (s .outgoing);
 }
 
-pub kept-in-order : (start end : Meaning) (calls : History) → Ran start calls end → Kept start end (traffic calls)
-kept-in-order start end calls begun = record { incoming = sym (append-nil _); outgoing = sym (append-nil _) }
-kept-in-order start end calls (arrive {h} {m} {z} {bytes} {k} r s) = kept-then start m z h (Arrive bytes k) (kept-in-order start m h r) (kept-arrive m z bytes k s)
-kept-in-order start end calls (depart {h} {m} {z} {old} {new} {k} r s) = kept-then start m z h (Depart new k) (kept-in-order start m h r) (kept-depart m z old new k s)
-kept-in-order start end calls (read {h} {m} {z} {old} {new} {k} {waiting} r s) = kept-then start m z h (Read new k) (kept-in-order start m h r) (kept-read m z old new k waiting s)
-kept-in-order start end calls (write {h} {m} {z} {bytes} {k} r s) = kept-then start m z h (Write bytes k) (kept-in-order start m h r) (kept-write m z bytes k s)
-kept-in-order start end calls (room {h} {m} r) = kept-then start m m h Room (kept-in-order start m h r) (kept-room m)
-kept-in-order start end calls (clear {h} {m} {z} {value} r s) = kept-then start m z h (Clear value) (kept-in-order start m h r) (kept-clear m z value s)
+kept-over : (start end : Meaning) (calls : History) → Ran start calls end → Kept start end (traffic calls)
+kept-over start end calls begun = record { incoming = sym (append-nil _); outgoing = sym (append-nil _) }
+kept-over start end calls (arrive {h} {m} {z} {bytes} {k} r s) = kept-then start m z h (Arrive bytes k) (kept-over start m h r) (kept-arrive m z bytes k s)
+kept-over start end calls (depart {h} {m} {z} {old} {new} {k} r s) = kept-then start m z h (Depart new k) (kept-over start m h r) (kept-depart m z old new k s)
+kept-over start end calls (read {h} {m} {z} {old} {new} {k} {waiting} r s) = kept-then start m z h (Read new k) (kept-over start m h r) (kept-read m z old new k waiting s)
+kept-over start end calls (write {h} {m} {z} {bytes} {k} r s) = kept-then start m z h (Write bytes k) (kept-over start m h r) (kept-write m z bytes k s)
+kept-over start end calls (room {h} {m} r) = kept-then start m m h Room (kept-over start m h r) (kept-room m)
+kept-over start end calls (clear {h} {m} {z} {value} r s) = kept-then start m z h (Clear value) (kept-over start m h r) (kept-clear m z value s)
+
+pub keeps : (start : Meaning) → Keeps start
+keeps start = record { run = λ end h r. kept-over start end h r }

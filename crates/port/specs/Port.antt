@@ -1,5 +1,6 @@
 -- What a byte port holds, and what each of its calls makes of that.
 -- In each relation `before` and `after` are what the port means as the call begins and as it returns.
+-- Where bytes leave the port, its rooms may rise, and do not fall; everything else is said exactly.
 use mathlib.Core.Path.{_≡_}
 use mathlib.Core.List.{List, [], _++_}
 use mathlib.Core.Bool.{Bool, true, cond, not, _&&_}

@@ -61,6 +61,10 @@ pub record Kept (start end : Meaning) (t : Traffic) : Type 0 where
   pub incoming : t .fetched ++ end .incoming ≡ start .incoming ++ t .arrived
   pub outgoing : t .departed ++ end .outgoing ≡ start .outgoing ++ t .written
 
--- Over any run of calls, both sides keep their bytes, in order.
+-- From this meaning on, over any run of calls, both sides keep their bytes, in order.
+pub record Keeps (start : Meaning) : Type 0 where
+  pub run : (end : Meaning) (h : History) → Ran start h end → Kept start end (traffic h)
+
+-- So it is with every port.
 abbrev pub Kept-in-order : Type 0
-Kept-in-order = (start end : Meaning) (h : History) → Ran start h end → Kept start end (traffic h)
+Kept-in-order = (start : Meaning) → Keeps start

@@ -1,6 +1,7 @@
 // A layer over any port that lets bytes depart only while it is clear to send.
 ghost use mathlib.Core.Path.{_≡_};
 ghost use Rattle.port.specs.Port.{heeding};
+ghost use Rattle.port.specs.Runs.{Keeps};
 use crate::Port;
 
 #[derive(Drop)]
@@ -12,6 +13,7 @@ impl<P: Port> LineControl<P> {
     pub fn new(below: P) -> LineControl<P>
         ensures below { λ r. ⌜ r .below ≡ below ⌝ }
         ensures meaning { λ r. ⌜ heeding (P·Port .meaning (r .below)) ≡ heeding (P·Port .meaning below) ⌝ }
+        ensures keeps { λ r. ⌜ Keeps (heeding (P·Port .meaning (r .below))) ⌝ }
     {
         LineControl { below }
     }

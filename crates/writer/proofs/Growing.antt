@@ -23,7 +23,7 @@ lies-push was l out n b h o =
     let back : drop n out ≡ drop (length l) was = ap (drop n) (o .held) ∙ drop-at l (drop (length l) was) n len in
     let size = length-append l (b ∷ []) in
     let rest : drop (suc n) out ≡ drop (length (l ++ (b ∷ []))) was =
-        ap (λ (k : ℕ). drop k out) (sym (add-one n)) ∙ sym (drop-drop 1 n out) ∙ ap (drop 1) back ∙ drop-drop 1 (length l) was ∙ ap (λ (k : ℕ). drop k was) (sym size) in
+    ap (λ (k : ℕ). drop k out) (sym (add-one n)) ∙ sym (drop-drop 1 n out) ∙ ap (drop 1) back ∙ drop-drop 1 (length l) was ∙ ap (λ (k : ℕ). drop k was) (sym size) in
     record {
       len = omega arith;
       held = set-split out n b h ∙ ap (λ (x : List ℕ). x ++ (b ∷ drop (suc n) out)) front ∙ ap (λ (x : List ℕ). l ++ (b ∷ x)) rest ∙ sym (append-assoc l (b ∷ []) (drop (length (l ++ (b ∷ []))) was));

@@ -2,3 +2,6 @@ pub mod Addresses
 pub mod Backs
 pub mod Growing
 pub mod Opening
+pub mod Shorter
+pub mod Repeating
+pub mod Pieces

@@ -104,13 +104,14 @@ module _ (side : Side) (address first : List ℕ) (mark room : ℕ) where
           go false q0 q e = let z : _≡_ {A = ℕ} 0 1 = cc in absurd (omega arith)
 
       by-read : (p : Bool) → isSome (address-of side address) ≡ p → (q : Bool) → is-mark side mark ≡ q → (r : Bool) → is-first-field side first ≡ r
-        → None ≡ cond p (cond q (cond r (room-fault (length (head-text address mark ++ ended first)) room) (Some (FirstField (length address + 3)))) (Some (BadMark (length address + 1)))) (Some BadAddress) → May-begin
+          → None ≡ cond p (cond q (cond r (room-fault (length (head-text address mark ++ ended first)) room) (Some (FirstField (length address + 3)))) (Some (BadMark (length address + 1)))) (Some BadAddress) → May-begin
       by-read true p true q true r e = enough (record { read = p; mark-is = q; first-is = r }) e
       by-read true p true q false r e = let z : _≡_ {A = ℕ} 0 1 = cc in absurd (omega arith)
       by-read true p false q r0 r e = let z : _≡_ {A = ℕ} 0 1 = cc in absurd (omega arith)
       by-read false p q0 q r0 r e = let z : _≡_ {A = ℕ} 0 1 = cc in absurd (omega arith)
 
   pub opened : (was out : List ℕ) (n : ℕ) → Formed-head → 0 < n → Lies was (head-text address mark ++ (first ++ (58 ∷ []))) out n → Opened was (begun side address mark first) out n
+  unfolding begun
   opened was out n w some lies = go (address-of side address) refl (w .read)
     where
       go : (o : Option Address) → address-of side address ≡ o → isSome o ≡ true → Opened was (record { side = side; address = address-read o; mark = mark; fields = first ∷ [] }) out n
@@ -118,9 +119,9 @@ module _ (side : Side) (address first : List ℕ) (mark room : ℕ) where
       go (Some a) p e =
           let h = address-was side address a p in
           let line : head-text address mark ++ (first ++ (58 ∷ [])) ≡ head-text (address-text a) mark ++ (ended first ++ []) =
-              ap (λ (x : List ℕ). head-text x mark ++ (first ++ (58 ∷ []))) (sym (h .text))
-              ∙ ap (λ (x : List ℕ). head-text (address-text a) mark ++ (x ++ (58 ∷ []))) (sym (same-first w))
-              ∙ ap (λ (x : List ℕ). head-text (address-text a) mark ++ x) (sym (append-nil (ended first))) in
+          ap (λ (x : List ℕ). head-text x mark ++ (first ++ (58 ∷ []))) (sym (h .text))
+          ∙ ap (λ (x : List ℕ). head-text (address-text a) mark ++ (x ++ (58 ∷ []))) (sym (same-first w))
+          ∙ ap (λ (x : List ℕ). head-text (address-text a) mark ++ x) (sym (append-nil (ended first))) in
           record {
             form = rw (h .form, w .mark-is) (w .first-is);
             bytes = (tame-bytes first (tame-first side first (w .first-is)), tt);
@@ -142,12 +143,13 @@ first-kept side [] f e = never e
 first-kept side (g ∷ fs) f e = e
 
 pub added : (was out new : List ℕ) (n k : ℕ) (m : Message) (f : List ℕ) → Every (λ b. b < 256) f → 0 < k → Opened was m out n → Lies was ((unclosed m ++ spelling f) ++ (58 ∷ [])) new k → Opened was (with-field m f) new k
+unfolding with-field
 added was out new n k m f hb some o lies =
     let g = both (is-address (m .side) (m .address)) _ (o .form) in
     let h = both (is-mark (m .side) (m .mark)) (first-formed (m .side) (m .fields)) (g .1) in
     let head = head-text (address-text (m .address)) (m .mark) in
     let line : (unclosed m ++ spelling f) ++ (58 ∷ []) ≡ unclosed (with-field m f) =
-        append-assoc (unclosed m) (spelling f) (58 ∷ []) ∙ append-assoc head (body-text (m .fields)) (ended f) ∙ ap (λ (x : List ℕ). head ++ x) (sym (body-more (m .fields) f)) in
+    append-assoc (unclosed m) (spelling f) (58 ∷ []) ∙ append-assoc head (body-text (m .fields)) (ended f) ∙ ap (λ (x : List ℕ). head ++ x) (sym (body-more (m .fields) f)) in
     record {
       form = rw (g .0, h .0) (first-kept (m .side) (m .fields) f (h .1));
       bytes = bytes-more (m .fields) f (o .bytes) hb;

@@ -2,3 +2,4 @@
 pub mod Canonical
 pub mod Laws
 pub mod Writing
+pub mod Rewriting

@@ -23,10 +23,10 @@ address-read None = record { device = []; zone = None }
 address-read (Some a) = a
 
 -- a message with its first field alone
-abbrev pub begun : Side → List ℕ → ℕ → List ℕ → Message
+unfoldable pub begun : Side → List ℕ → ℕ → List ℕ → Message
 begun side address mark first = record { side = side; address = address-read (address-of side address); mark = mark; fields = first ∷ [] }
 
-abbrev pub with-field : Message → List ℕ → Message
+unfoldable pub with-field : Message → List ℕ → Message
 with-field m field = record { side = m .side; address = m .address; mark = m .mark; fields = m .fields ++ (field ∷ []) }
 
 -- its line up to the third slash

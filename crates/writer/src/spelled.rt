@@ -1,11 +1,24 @@
-// How long a field is as it is spelled.
+// How long a field is as it is spelled, and the spelling of a byte by its number.
 ghost use mathlib.Core.Path.{_≡_};
 ghost use Prim.Native.Nat.{_<_, _≤_};
 ghost use lib.ListN.{length};
 ghost use Rattle.std.specs.declared.option.Option.the-variants.{Some, None};
-ghost use Rattle.escape.specs.Spelling.{spelled, spelling};
+ghost use Rattle.escape.specs.Spelling.{in-digits, spelled, spelling};
 
-fn spelled_len(b: u8) -> usize
+// A backslash, `d`, and the byte's number in three digits.
+pub(crate) fn numeral(b: u8) -> [u8; 5]
+    ensures { λ r. ⌜ r ≡ in-digits b ⌝ }
+{
+    [
+        b'\\',
+        b'd',
+        b'0' + b / 100,
+        b'0' + b / 10 % 10,
+        b'0' + b % 10,
+    ]
+}
+
+pub(crate) fn spelled_len(b: u8) -> usize
     ensures { λ r. ⌜ r ≡ length (spelled b) ⌝ }
 {
     match b {

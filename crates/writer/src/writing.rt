@@ -11,6 +11,7 @@ ghost use Rattle.line.specs.Meanings.{side-of};
 ghost use Rattle.writer.specs.Canonical.{head-text, closed};
 ghost use Rattle.writer.specs.Writing.{Lies, Opened, Closed, begun, with-field, refusal, begin-fault, add-fault};
 use crate::page::Writer;
+use crate::spelled::numeral;
 use crate::spelled::spelled_within;
 use line::Fault;
 use line::LINE_MAX;
@@ -21,7 +22,7 @@ use line::is_first_field;
 use line::is_mark;
 
 // The slash, and the two digits of the check.
-const CHECK_LEN: usize = 3;
+pub(crate) const CHECK_LEN: usize = 3;
 
 impl<'a> Writer<'a> {
     // A writer over the buffer, with no line open.
@@ -34,7 +35,13 @@ impl<'a> Writer<'a> {
     }
 
     // Begins the line of a message with its first field alone; one that is open already is given up.
-    pub fn begin(&mut self, side: Side, address: &[u8], mark: char, first: &[u8]) -> Result<(), Fault>
+    pub fn begin(
+        &mut self,
+        side: Side,
+        address: &[u8],
+        mark: char,
+        first: &[u8],
+    ) -> Result<(), Fault>
         ensures answer { λ r. ⌜ refusal r ≡ begin-fault (side-of side) (now (address .entry)) mark (now (first .entry)) (length (now (now (self .entry) .out))) ⌝ }
         ensures state { λ r. ⌜ elim r [ Ok _ ↦ Opened (now (now (self .entry) .out)) (begun (side-of side) (now (address .entry)) mark (now (first .entry))) (now (now (self .exit) .out)) (now (self .exit) .len) | Err f ↦ now (self .exit) ≡ now (self .entry) ] ⌝ }
         ensures lender { λ _. ⌜ name (now (self .exit) .out) ≡ name (now (self .entry) .out) ⌝ }
@@ -73,6 +80,7 @@ impl<'a> Writer<'a> {
     // Closes the line and answers its length, or 0 if none is open.
     pub fn close(self) -> usize
         ensures closed { λ r. ⌜ ((was : List ℕ) (m : Message) → Opened was m (now (self .entry .out)) (self .entry .len) → Closed was m (now (self .exit .0)) r) ⌝ }
+        ensures lies { λ r. ⌜ ((was l : List ℕ) → 0 < self .entry .len → Lies was l (now (self .entry .out)) (self .entry .len) → Lies was (closed l) (now (self .exit .0)) r) ⌝ }
         ensures none { λ r. ⌜ (self .entry .len ≡ 0 → (r ≡ 0) × (now (self .exit .0) ≡ now (self .entry .out))) ⌝ }
     {
         let Writer { out, len } = self;
@@ -93,7 +101,7 @@ impl<'a> Writer<'a> {
         self.push(b':');
     }
 
-    fn push(&mut self, b: u8)
+    pub(crate) fn push(&mut self, b: u8)
         requires { ⌜ now self .len + 4 ≤ length (now (now self .out)) ⌝ ∗ ⌜ now self .len + 4 ≤ 1024 ⌝ }
         ensures len { λ _. ⌜ now (self .exit) .len ≡ now (self .entry) .len + 1 ⌝ }
         ensures room { λ _. ⌜ length (now (now (self .exit) .out)) ≡ length (now (now (self .entry) .out)) ⌝ }
@@ -105,7 +113,7 @@ impl<'a> Writer<'a> {
         self.len = at + 1;
     }
 
-    fn push_all(&mut self, bytes: &[u8])
+    pub(crate) fn push_all(&mut self, bytes: &[u8])
         requires { ⌜ now self .len + length (now bytes) + 3 ≤ length (now (now self .out)) ⌝ ∗ ⌜ now self .len + length (now bytes) + 3 ≤ 1024 ⌝ }
         ensures len { λ _. ⌜ now (self .exit) .len ≡ now (self .entry) .len + length (now (bytes .entry)) ⌝ }
         ensures room { λ _. ⌜ length (now (now (self .exit) .out)) ≡ length (now (now (self .entry) .out)) ⌝ }
@@ -117,7 +125,7 @@ impl<'a> Writer<'a> {
         }
     }
 
-    fn push_spelled(&mut self, b: u8)
+    pub(crate) fn push_spelled(&mut self, b: u8)
         requires { ⌜ now self .len + length (spelled b) + 3 ≤ length (now (now self .out)) ⌝ ∗ ⌜ now self .len + length (spelled b) + 3 ≤ 1024 ⌝ }
         ensures len { λ _. ⌜ now (self .exit) .len ≡ now (self .entry) .len + length (spelled b) ⌝ }
         ensures room { λ _. ⌜ length (now (now (self .exit) .out)) ≡ length (now (now (self .entry) .out)) ⌝ }
@@ -130,7 +138,7 @@ impl<'a> Writer<'a> {
             b'\r' => self.push_all(b"\\r"),
             b'\t' => self.push_all(b"\\t"),
             b' '..=b'~' => self.push(b),
-            _ => self.push_all(&[b'\\', b'd', b'0' + b / 100, b'0' + b / 10 % 10, b'0' + b % 10]),
+            _ => self.push_all(&numeral(b)),
         }
     }
 

@@ -1,5 +1,6 @@
 // A serial port as a port. It keeps Clear for whoever asks, and does not heed it.
 ghost use mathlib.Core.Path.{_≡_};
+ghost use Rattle.port.specs.Runs.{Keeps};
 ghost use Rattle.serial.specs.Serials.{serial, idle};
 use crate::queue::PLACES;
 use crate::queue::Queue;
@@ -8,7 +9,8 @@ use port::Port;
 
 impl Serial {
     pub fn new() -> Serial
-        ensures { λ r. ⌜ serial r ≡ idle ⌝ }
+        ensures meaning { λ r. ⌜ serial r ≡ idle ⌝ }
+        ensures keeps { λ r. ⌜ Keeps (serial r) ⌝ }
     {
         Serial {
             input: Queue::new(),

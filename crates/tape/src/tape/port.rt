@@ -6,6 +6,7 @@ ghost use Prim.Native.Nat.{ℕ, _+_, _≤_};
 ghost use lib.ListN.{take};
 ghost use Rattle.bytes.specs.Parts.{part, Filled};
 ghost use Rattle.port.specs.Port.{Departed, Fetched, HungUp};
+ghost use Rattle.port.specs.Runs.{Keeps};
 ghost use Rattle.std.specs.Vec.{made};
 ghost use Rattle.std.specs.Of.Vec.{vec-len, vec-items};
 ghost use Rattle.tape.specs.Tapes.{tape, blank};
@@ -19,7 +20,8 @@ use std::alloc::Global;
 impl Tape {
     // A tape that plays the recording, with so many places to write.
     pub fn new(heap: Global, recording: Vec<u8>, places: usize) -> Result<Tape, AllocError>
-        ensures { λ r. ⌜ made r (λ t. tape t ≡ blank (vec-items recording) places) ⌝ }
+        ensures meaning { λ r. ⌜ made r (λ t. tape t ≡ blank (vec-items recording) places) ⌝ }
+        ensures keeps { λ r. ⌜ made r (λ t. Keeps (tape t)) ⌝ }
     {
         let out = vec![in heap; 0; places]?;
         Ok(Tape {

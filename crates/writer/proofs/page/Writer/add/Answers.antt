@@ -29,6 +29,6 @@ returns c =
     record {
       answer = add-room (c .args .self .now .len) (length (c .args .self .now .out .now)) (c .args .field .now) (omega arith) (omega arith) (omega arith);
       state = λ was m o. added was (c .args .self .now .out .now) (c .push .last .self .out .now) (c .args .self .now .len) (c .push .last .self .len) m (c .args .field .now) (every-byte (c .args .field .now) (c .typed .field)) (omega arith) o
-        (c .push .ensures .lies was _ (c .push-field .ensures .lies was (unclosed m) (o .lies)));
+          (c .push .ensures .lies was _ (c .push-field .ensures .lies was (unclosed m) (o .lies)));
       lender = c .push .ensures .lender ∙ c .push-field .ensures .lender;
     }

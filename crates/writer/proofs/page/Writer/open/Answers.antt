@@ -13,7 +13,7 @@ returns c =
     record {
       some = omega (arith, c .push .ensures .len);
       lies =
-        subst (λ (x : List ℕ). Lies was x (c .push .last .self .out .now) (c .push .last .self .len)) (append-assoc (head-text (c .args .address .now) (c .args .mark)) (c .args .first .now) (58 ∷ []))
-        (c .push .ensures .lies was _ (c .push-all-3 .ensures .lies was _ (c .push-all-2 .ensures .lies was _ (c .push-all .ensures .lies was [] (lies-none was)))));
+          subst (λ (x : List ℕ). Lies was x (c .push .last .self .out .now) (c .push .last .self .len)) (append-assoc (head-text (c .args .address .now) (c .args .mark)) (c .args .first .now) (58 ∷ []))
+          (c .push .ensures .lies was _ (c .push-all-3 .ensures .lies was _ (c .push-all-2 .ensures .lies was _ (c .push-all .ensures .lies was [] (lies-none was)))));
       lender = c .push .ensures .lender ∙ c .push-all-3 .ensures .lender ∙ c .push-all-2 .ensures .lender ∙ c .push-all .ensures .lender;
     }

@@ -18,8 +18,7 @@ push-spelled-requires c κs =
 pub loop-b-again : need.loop-b-again
 loop-b-again c =
     let s = c .args .field .now in
-    let i = c .loop-b .b-index in
-    (
+    let i = c .loop-b .b-index in (
       omega (arith, c .push-spelled .ensures .len, longer s i (omega arith)),
       c .push-spelled .ensures .room ∙ c .loop-b .inv .1,
       c .push-spelled .ensures .lender ∙ c .loop-b .inv .2,
