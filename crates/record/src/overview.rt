@@ -17,6 +17,7 @@ use escape::resolve;
 use escape::resolved_len;
 use line::Fault;
 use line::Message;
+use std::fmt;
 
 #[derive(Clone, Copy, PartialEq, Eq, Debug)]
 pub struct BrowseResultsOverview {
@@ -77,5 +78,14 @@ impl BrowseResultsOverview {
             lines,
             total,
         })
+    }
+}
+
+// How much of what was found is in the window; handle and title are in the caller's buffer.
+pub impl fmt::Display for BrowseResultsOverview as BrowseResultsOverviewDisplay {
+    fn fmt<W: fmt::Write>(&self, f: &mut fmt::Formatter<W>) -> fmt::Result {
+        let lines = self.lines;
+        let total = self.total;
+        write!(f, "{lines} of {total} lines")
     }
 }

@@ -9,11 +9,13 @@ use crate::fields::is_kind;
 use crate::fields::number_at;
 use crate::mode::PlayMode;
 use crate::mode::PlayModeDebug;
+use crate::mode::PlayModeDisplay;
 use crate::mode::PlayModeEq;
 use crate::mode::PlayModePartialEq;
 use crate::number::numeral;
 use line::Fault;
 use line::Message;
+use std::fmt;
 
 // The highest speed of a scan.
 const SPEED_MAX: u32 = 3;
@@ -81,5 +83,21 @@ impl PlayStatus {
             chapter_length,
             chapter_location,
         })
+    }
+}
+
+// Mode and speed, then where in title and chapter the player is, in seconds.
+pub impl fmt::Display for PlayStatus as PlayStatusDisplay {
+    fn fmt<W: fmt::Write>(&self, f: &mut fmt::Formatter<W>) -> fmt::Result {
+        let mode = self.mode;
+        let speed = self.speed;
+        let title = self.title_number;
+        let at = self.title_location;
+        let of = self.title_length;
+        write!(f, "{mode} at speed {speed}, title {title} at {at} of {of} s")?;
+        let chapter = self.chapter_number;
+        let at = self.chapter_location;
+        let of = self.chapter_length;
+        write!(f, ", chapter {chapter} at {at} of {of} s")
     }
 }
