@@ -19,7 +19,7 @@ use Rattle.line.specs.declared.message.Address.{Address as Place}
 use Rattle.line.specs.declared.message.Message.{Message}
 use Rattle.line.specs.declared.message.Message.the-variants.{Answer, Event, Command}
 use Rattle.line.specs.declared.fault.Fault.{Fault}
-use Rattle.line.specs.declared.fault.Fault.the-variants.{TooLong, Invisible, BadEscape, Slashes, BadAddress, BadMark, CheckForm, CheckSum, BodyEnd, FirstField, PumpBuffer, NoNumber, NoRoom, ShortBuffer, NoField}
+use Rattle.line.specs.declared.fault.Fault.the-variants.{TooLong, Invisible, BadEscape, Slashes, BadAddress, BadMark, CheckForm, CheckSum, BodyEnd, FirstField, PumpBuffer, NoNumber, NoRoom, ShortBuffer, NoField, RecordForm}
 use Rattle.line.specs.declared.fault.Layer.{Layer}
 use Rattle.line.specs.declared.fault.Layer.the-variants.{Line, Parts as PartsLayer, Body, Record}
 
@@ -44,6 +44,7 @@ number-of NoNumber = 12
 number-of NoRoom = 13
 number-of ShortBuffer = 14
 number-of (NoField i) = 15
+number-of (RecordForm i) = 16
 
 abbrev pub place-of : Fault → Option ℕ
 place-of TooLong = Some 1024
@@ -61,14 +62,16 @@ place-of NoNumber = None
 place-of NoRoom = None
 place-of ShortBuffer = None
 place-of (NoField i) = Some i
+place-of (RecordForm i) = Some i
 
--- 1 to 3 are told of the line, 4 to 8 of its parts, 9 and 10 of its body, 15 of the fields of a message; 11 to 14 are numbers alone
+-- 1 to 3 are told of the line, 4 to 8 of its parts, 9 and 10 of its body, 15 and 16 of the fields of a message; 11 to 14 are numbers alone
 abbrev pub layer-of : ℕ → Option Layer
 layer-of n =
     cond (leb n 3) (Some Line)
     (cond (leb n 8) (Some PartsLayer)
     (cond (leb n 10) (Some Body)
-    (cond (eqb n 15) (Some Record) None)))
+    (cond (eqb n 15) (Some Record)
+    (cond (eqb n 16) (Some Record) None))))
 
 -- a fault of a line always has a place
 abbrev pub told : Fault → Read

@@ -45,6 +45,8 @@ pub enum Fault {
     ShortBuffer,
     // 15: the message has no field of that index
     NoField(usize),
+    // 16: the fields do not fit the kind of record; the first wrong one, from 1, or 0 for a wrong name or count
+    RecordForm(usize),
 }
 
 impl Fault {
@@ -67,10 +69,11 @@ impl Fault {
             Fault::NoRoom => 13,
             Fault::ShortBuffer => 14,
             Fault::NoField(_) => 15,
+            Fault::RecordForm(_) => 16,
         }
     }
 
-    // Where in the line, or by which index, if the reason has a place.
+    // Where in the line, or which field, if the reason has a place.
     pub fn place(&self) -> Option<usize>
         ensures { λ r. ⌜ r ≡ place-of (now (self .entry)) ⌝ }
     {
@@ -85,7 +88,8 @@ impl Fault {
             | Fault::CheckSum(place)
             | Fault::BodyEnd(place)
             | Fault::FirstField(place)
-            | Fault::NoField(place) => Some(*place),
+            | Fault::NoField(place)
+            | Fault::RecordForm(place) => Some(*place),
             Fault::PumpBuffer | Fault::NoNumber | Fault::NoRoom | Fault::ShortBuffer => None,
         }
     }
@@ -97,7 +101,7 @@ impl Fault {
             1..=3 => Some(Layer::Line),
             4..=8 => Some(Layer::Parts),
             9..=10 => Some(Layer::Body),
-            15 => Some(Layer::Record),
+            15..=16 => Some(Layer::Record),
             _ => None,
         }
     }

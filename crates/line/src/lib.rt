@@ -12,6 +12,7 @@ pub use address::address_in;
 pub use body::is_first_field;
 pub use check::check_sum;
 pub use fault::Fault;
+pub use fault::FaultPartialEq;
 pub use fault::Layer;
 pub use mark::is_mark;
 pub use message::Address;

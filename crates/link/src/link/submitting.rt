@@ -1,6 +1,7 @@
 // What submit does: the command's line is put together first, so that a refusal leaves all as it was.
 ghost use mathlib.Core.Path.{_≡_};
 ghost use Prim.Native.Nat.{_+_, _≤_, _<_, min};
+ghost use lib.Dec.{leb};
 ghost use lib.ListN.{length};
 ghost use Rattle.port.specs.Port.{Written};
 ghost use Rattle.life.specs.Link.{is-open, Put};
@@ -34,6 +35,13 @@ fn ready_line(address: &[u8], number: u8, body: &[u8], line: &mut [u8]) -> Resul
     }
 }
 
+// Whether a line of so many bytes, and its end, have room.
+fn has_room(length: usize, room: usize) -> bool
+    ensures { λ r. ⌜ r ≡ leb (length + 1) room ⌝ }
+{
+    length < room
+}
+
 impl<P: Port> Link<P> {
     // Writes the line as far as the port has room, and opens the number with its command.
     fn send(&mut self, number: u8, line: &[u8], pending: Pending)
@@ -63,7 +71,7 @@ impl<P: Port> Link<P> {
             Err(fault) => return Err(fault),
         };
         let (room, _) = self.port.room();
-        if room < prepared.length + 1 {
+        if !has_room(prepared.length, room) {
             return Err(Fault::NoRoom);
         }
         self.send(number, &line[0..prepared.length + 1], prepared.pending);

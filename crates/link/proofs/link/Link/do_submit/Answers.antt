@@ -24,10 +24,10 @@ returns-in-Err-ready-line g c =
       refused = refl;
     }
 
-pub returns-then-room-prepared : need.returns-then-room-prepared
-returns-then-room-prepared g c =
+pub returns-then-not-has-room : need.returns-then-not-has-room
+returns-then-not-has-room g c =
     record {
-      does = (refl, full (state (g .P·Port .meaning (c .args .self .now .port)) (c .args .self .now .core)) (c .args .address .now) (c .args .body .now) (c .in-Some .number) (c .room-room .result .0) _ _ (c .in-Some .ensures tt .1) (c .in-Ok-ready-line .ensures tt) (c .room-room .ensures .room) (c .if-room-prepared .taken));
+      does = (refl, full (state (g .P·Port .meaning (c .args .self .now .port)) (c .args .self .now .core)) (c .args .address .now) (c .args .body .now) (c .in-Some .number) (c .room-room .result .0) (c .in-Ok-ready-line .prepared) _ (c .in-Some .ensures tt .1) (c .in-Ok-ready-line .ensures tt) (c .room-room .ensures .room) (search needs));
       refused = refl;
     }
 
@@ -37,7 +37,7 @@ returns g c =
     record {
       does = accepted (g .P·Port .meaning (c .args .self .now .port)) (g .P·Port .meaning (c .send .last .self .port)) (c .args .self .now .core) (c .send .last .self .core)
         (c .args .address .now) (c .args .body .now) _ (c .in-Some .number) (c .room-room .result .0) (c .in-Ok-ready-line .prepared)
-        few (c .in-Some .ensures tt .1) (c .in-Ok-ready-line .ensures tt) (c .room-room .ensures .room) (c .if-room-prepared .left)
+        few (c .in-Some .ensures tt .1) (c .in-Ok-ready-line .ensures tt) (c .room-room .ensures .room) (search needs)
         (c .send .ensures .port) (c .send .ensures .slots few) (c .send .ensures .recent few) (c .send .ensures .link) (c .send .ensures .unfinished);
       refused = tt;
     }
