@@ -1,5 +1,5 @@
 -- A command that can be sent is kept and written again, whatever the buffer, if that is long enough for any line.
-use mathlib.Core.Path.{_≡_, refl, sym, ap, _∙_}
+use mathlib.Core.Path.{_≡_, refl, sym, ap, subst, _∙_}
 use mathlib.Core.Bool.{true}
 use mathlib.Core.List.{List}
 use Prim.Native.Nat.{ℕ, _+_, _%_, _≤_}
@@ -59,10 +59,13 @@ digit-of : (n : ℕ) → digit (48 + n % 10) ≡ true
 digit-of n = digit-is (48 + n % 10) (omega arith) (omega arith)
 
 -- what was read is a command that can be sent, with the number's digit for its mark
-pub read-ready : (a b : List ℕ) (n : ℕ) (m : Message) → meant m ≡ request-read a (48 + n % 10) b → Ready (48 + n % 10) m
-read-ready a b n m e = sends a b (48 + n % 10) m (digit-of n) (sym {b = request-read a (48 + n % 10) b} e)
+pub read-ready : (a b : List ℕ) (n d : ℕ) (m : Message) → d ≡ 48 + n % 10 → meant m ≡ request-read a d b → (meant m ≡ request-read a (48 + n % 10) b) × Ready (48 + n % 10) m
+read-ready a b n d m is e =
+    let f : meant m ≡ request-read a (48 + n % 10) b = subst (λ (k : ℕ). meant m ≡ request-read a k b) is e in
+    (f, sends a b (48 + n % 10) m (digit-of n) (sym {b = request-read a (48 + n % 10) b} f))
 
-pub prepares : (a b was out : List ℕ) (n : ℕ) (m : Message) (p : Prepared) → meant m ≡ request-read a (48 + n % 10) b → Lies-ready m was out p → Prepares (request-read a (48 + n % 10) b) (48 + n % 10) was out p
-prepares a b was out n m p e lies =
-    let w = read-ready a b n m e in
-    record { message = m; means = sym {b = request-read a (48 + n % 10) b} e; mark = w .mark; sends = w .sends; lies = lies }
+pub prepares : (a b was out : List ℕ) (n d : ℕ) (m : Message) (p : Prepared) → d ≡ 48 + n % 10 → meant m ≡ request-read a d b → Lies-ready m was out p
+    → Prepares (request-read a (48 + n % 10) b) (48 + n % 10) was out p
+prepares a b was out n d m p is e lies =
+    let w = read-ready a b n d m is e in
+    record { message = m; means = sym {b = request-read a (48 + n % 10) b} (w .0); mark = w .1 .mark; sends = w .1 .sends; lies = lies }

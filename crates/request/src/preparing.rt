@@ -66,6 +66,13 @@ fn read_request<'a>(
     }
 }
 
+// The last digit of a number, as a mark.
+fn mark_of(number: u8) -> u8
+    ensures { λ r. ⌜ r ≡ 48 + number % 10 ⌝ }
+{
+    b'0' + number % 10
+}
+
 // Writes the canonical line of the request's command, with the last digit of the number for its mark, to the front of `out`; or
 // refuses, and touches nothing.
 pub fn prepare(address: &[u8], number: u8, body: &[u8], out: &mut [u8]) -> Result<Prepared, Fault>
@@ -76,7 +83,7 @@ pub fn prepare(address: &[u8], number: u8, body: &[u8], out: &mut [u8]) -> Resul
         return Err(Fault::ShortBuffer);
     }
     let mut buffer = [0u8; 1024];
-    match read_request(address, b'0' + number % 10, body, &mut buffer) {
+    match read_request(address, mark_of(number), body, &mut buffer) {
         Ok(message) => Ok(ready(&message, out)),
         Err(fault) => Err(fault),
     }
