@@ -10,7 +10,9 @@ use serial::SerialPort;
 use std::error::AnyError;
 
 // What a player answers to the search: an overview that announces two lines, and these.
-const FIRST_PIECE: &[u8] = b"01.01/0/000:BROWSE_RESULTS_OVERVIEW:7:Acts:2:9:/27\r01.01/0/000:BROWSE_RES";
+const FIRST_PIECE: &[u8] =
+    b"01.01/0/000:BROWSE_RESULTS_OVERVIEW:7:Acts:2:9:/27\r01.01/0/000:BROWSE_RES";
+
 const SECOND_PIECE: &[u8] = b"ULT:1:4:Alpha:/90\r01.01/0/000:BROWSE_RESULT:2:5:Beta:/86\r";
 
 // The most lines that are taken of one answer.
@@ -54,7 +56,11 @@ fn search(link: &mut Link<Serial>) -> Option<Found> {
     let _ = link.arrive(SECOND_PIECE);
     let lines = lines_left(link, &mut buffer);
     let outcome = link.settle(ticket);
-    Some(Found { announced, lines, outcome })
+    Some(Found {
+        announced,
+        lines,
+        outcome,
+    })
 }
 
 fn outcome_name(outcome: Outcome) -> &'static str {

@@ -36,8 +36,8 @@ returns g c =
     let few = c .in-Some .ensures tt .0 in
     record {
       does = accepted (g .P·Port .meaning (c .args .self .now .port)) (g .P·Port .meaning (c .send .last .self .port)) (c .args .self .now .core) (c .send .last .self .core)
-        (c .args .address .now) (c .args .body .now) _ (c .in-Some .number) (c .room-room .result .0) (c .in-Ok-ready-line .prepared)
-        few (c .in-Some .ensures tt .1) (c .in-Ok-ready-line .ensures tt) (c .room-room .ensures .room) (search needs)
-        (c .send .ensures .port) (c .send .ensures .slots few) (c .send .ensures .recent few) (c .send .ensures .link) (c .send .ensures .unfinished);
+          (c .args .address .now) (c .args .body .now) _ (c .in-Some .number) (c .room-room .result .0) (c .in-Ok-ready-line .prepared)
+          few (c .in-Some .ensures tt .1) (c .in-Ok-ready-line .ensures tt) (c .room-room .ensures .room) (search needs)
+          (c .send .ensures .port) (c .send .ensures .slots few) (c .send .ensures .recent few) (c .send .ensures .link) (c .send .ensures .unfinished);
       refused = tt;
     }
