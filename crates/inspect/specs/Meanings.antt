@@ -1,6 +1,7 @@
 -- What the values of the code mean.
-use mathlib.Core.List.{List}
+use mathlib.Core.List.{List, []}
 use Prim.Native.Nat.{ℕ, _<_}
+use lib.Chars.{codes}
 use lib.ListN.{length}
 use denote.Ref.{RefT}
 use Rattle.std.specs.Options.{mapped, valueOr}
@@ -9,6 +10,8 @@ use Rattle.std.specs.declared.option.Option.the-variants.{Some, None}
 use Rattle.line.specs.Forms.{Side as Said}
 use Rattle.line.specs.Meanings.{side-of, number-of, place-of}
 use Rattle.line.specs.declared.message.Side.{Side}
+use Rattle.line.specs.declared.fault.Layer.{Layer}
+use Rattle.line.specs.declared.fault.Layer.the-variants.{Line, Parts, Body, Record}
 use Rattle.inspect.specs.Rows.{commands, answers, event, notice, unknown, fault, unsendable, told}
 use Rattle.inspect.specs.Rows.{Kind as Kinds, Row as Rows}
 use Rattle.inspect.specs.declared.row.Kind.{Kind}
@@ -26,6 +29,13 @@ Shorter s (Some p) = length (p .1 .now) < length s
 
 abbrev pub side-said : Option Side → Option Said
 side-said o = mapped side-of o
+
+abbrev pub layer-name : Option Layer → List ℕ
+layer-name None = []
+layer-name (Some Line) = codes "line"
+layer-name (Some Parts) = codes "parts"
+layer-name (Some Body) = codes "body"
+layer-name (Some Record) = codes "record"
 
 abbrev pub kind-said : Kind → Kinds
 kind-said Command = commands

@@ -3,10 +3,10 @@ ghost use mathlib.Core.Path.{_≡_};
 ghost use mathlib.Core.Bool.{true};
 ghost use lib.ListN.{length};
 ghost use Rattle.line.specs.Lines.{meant};
-ghost use Rattle.line.specs.Meanings.{message-of};
+ghost use Rattle.line.specs.Meanings.{message-of, number-of, layer-of};
 ghost use Rattle.writer.specs.Canonical.{formed};
 ghost use Rattle.inspect.specs.Rows.{side-by, kind-of, row-of-read, row-for};
-ghost use Rattle.inspect.specs.Meanings.{side-said, kind-said, row-said};
+ghost use Rattle.inspect.specs.Meanings.{layer-name, side-said, kind-said, row-said};
 use line::Fault;
 use line::Layer;
 use line::Message;
@@ -47,7 +47,10 @@ pub(crate) impl fmt::Display for Kind as KindDisplay {
     }
 }
 
-fn layer_name(fault: &Fault) -> &'static str {
+// The layer that turned a line away; every fault of a line has one.
+fn layer_name(fault: &Fault) -> &'static str
+    ensures { λ r. ⌜ now r ≡ layer-name (layer-of (number-of (now (fault .entry)))) ⌝ }
+{
     match fault.layer() {
         Some(Layer::Line) => "line",
         Some(Layer::Parts) => "parts",
