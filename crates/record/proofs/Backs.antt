@@ -182,8 +182,8 @@ status-back s e m a = alone-with m (status-fields s) a (λ x. play-status x ≡ 
     (ap (else-wrong 8) (numeral-back 5 (s .«chapter_location») (w .chapter-place))))
 
 -- ---- a record that may be written
-pub may-write : (bare : Bool) (wrong : Option ℕ) (n : ℕ) (fields : List (List ℕ)) (room : ℕ) → true ≡ bare → None ≡ wrong → all-fault n fields room ≡ write-fault bare wrong n fields room
-may-write bare wrong n fields room b w = rw (← b, ← w)
+pub may-write : (said : Option Fault) (bare : Bool) (wrong : Option ℕ) (n room : ℕ) (others fields : List (List ℕ)) → said ≡ all-fault n others room → others ≡ fields → true ≡ bare → None ≡ wrong → said ≡ write-fault bare wrong n fields room
+may-write said bare wrong n room others fields e f b w = rw (← b, ← w, ← f) e
 
 pub if-written : {X : Type 0} (r : Result X Fault) (P : Type 0) → P → elim r as (λ (x : Result X Fault). Type 0) [ Ok x ↦ P | Err f ↦ Unit {0} ]
 if-written (Ok x) P p = p
@@ -194,3 +194,49 @@ pub adds-same : {X : Type 0} (r : Result X Fault) (fields others : List (List �
     → elim r as (λ (x : Result X Fault). Type 0) [ Ok x ↦ Adds others before after | Err f ↦ after ≡ before ]
 adds-same (Ok x) fields others before after e h = subst (λ (fs : List (List ℕ)). Adds fs before after) e h
 adds-same (Err f) fields others before after e h = h
+
+-- ---- a title and an overview read back
+pub title-back : (title : List ℕ) → Title-back title
+unfolding title-fields field-of
+title-back title m a = alone-with m (title-fields title) a (Title-read title) (λ status. record {
+  text = refl;
+  is = λ room h. rw (kind-is m status (codes "TITLE_NAME") (title ∷ []) 1 (a .side) refl (same-self (codes "TITLE_NAME")), le-leb (length title) room h);
+})
+
+overview-by-fields : (m : Message) (handle title : List ℕ) (lines total room : ℕ) → is-overview m ≡ true → count-in m 3 ≡ Ok lines → count-in m 4 ≡ Ok total → field-of m 1 ≡ handle → texts m ≡ handle ++ title → length (handle ++ title) ≤ room
+    → overview m room ≡ Ok (record { handle = record { start = 0; end = length handle }; title = record { start = length handle; end = length (handle ++ title) }; lines = lines; total = total })
+overview-by-fields m handle title lines total room k a b f t h = rw (k, a, b, f, t, le-leb (length (handle ++ title)) room h)
+
+pub overview-back : (handle title : List ℕ) (lines total : ℕ) → lines ≤ 65535 → total ≤ 65535 → Overview-back handle title lines total
+unfolding overview-fields field-of texts count-in is-overview
+overview-back handle title lines total l t m a = alone-with m (overview-fields handle title lines total) a (Overview-read handle title lines total) (λ status. record {
+  text = refl;
+  is = λ room h. overview-by-fields (behind m status (overview-fields handle title lines total)) handle title lines total room
+    (kind-is m status (codes "BROWSE_RESULTS_OVERVIEW") (handle ∷ title ∷ in-count lines ∷ in-count total ∷ []) 4 (a .side) refl (same-self (codes "BROWSE_RESULTS_OVERVIEW")))
+    (ap (else-wrong 3) (count-back lines l)) (ap (else-wrong 4) (count-back total t)) refl refl h;
+})
+
+-- the digits of a count are the last of five
+pub count-digits : (n : ℕ) (digits : List ℕ) (width : ℕ) → digits ≡ in-digits 5 n → width ≡ width-of n → last-of width digits ≡ in-count n
+unfolding in-count in-digits
+count-digits n digits width e w = rw (e, w) (go (leb n 9) (leb n 99) (leb n 999) (leb n 9999))
+  where
+    go : (a b c d : Bool) → last-of (cond a 1 (cond b 2 (cond c 3 (cond d 4 5)))) (in-digits 5 n) ≡ in-digits (cond a 1 (cond b 2 (cond c 3 (cond d 4 5)))) n
+    go true b c d = refl
+    go false true c d = refl
+    go false false true d = refl
+    go false false false true = refl
+    go false false false false = refl
+
+-- ---- a text that lies in its buffer
+pub text-there : (there : Bool) (whole title : List ℕ) → Some title ≡ cond there (Some whole) None → (true ≡ there) × (title ≡ whole)
+text-there true whole title e = (refl, cc)
+text-there false whole title e = let z : _≡_ {A = ℕ} 0 1 = cc in absurd (omega arith)
+
+pub title-fields-are : (title whole : List ℕ) → title ≡ whole → codes "TITLE_NAME" ∷ title ∷ [] ≡ title-fields whole
+unfolding title-fields
+title-fields-are title whole e = cc
+
+pub overview-fields-are : (handle title lines total h t : List ℕ) (n k : ℕ) → handle ≡ h → title ≡ t → lines ≡ in-count n → total ≡ in-count k → codes "BROWSE_RESULTS_OVERVIEW" ∷ handle ∷ title ∷ lines ∷ total ∷ [] ≡ overview-fields h t n k
+unfolding overview-fields
+overview-fields-are handle title lines total h t n k eh et el ek = cc

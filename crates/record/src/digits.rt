@@ -1,5 +1,7 @@
 // How numbers are written in digits.
 ghost use mathlib.Core.Path.{_≡_};
+ghost use Prim.Native.Nat.{_≤_};
+ghost use Rattle.record.specs.Writes.{last-of};
 ghost use Rattle.record.specs.Numbers.{in-digits, width-of};
 
 // The last five digits of a number.
@@ -26,4 +28,12 @@ pub(crate) fn count_width(n: u16) -> usize
         1000..=9999 => 4,
         _ => 5,
     }
+}
+
+// The last of five digits.
+pub(crate) fn last_of(digits: &[u8; 5], width: usize) -> &[u8]
+    requires { ⌜ width ≤ 5 ⌝ }
+    ensures { λ r. ⌜ now r ≡ last-of width (now (digits .entry)) ⌝ }
+{
+    &digits[5 - width..5]
 }

@@ -1,8 +1,4 @@
-use mathlib.Core.Path.{ap, _∙_}
-use mathlib.Core.List.{List}
-use Prim.Native.Nat.{ℕ}
 use lib.ListN.{length}
-use Rattle.writer.specs.Writing.{all-fault}
 use Rattle.record.specs.Writes.{row-fields, status-fields, wrong-status, Status-back}
 use Rattle.record.proofs.Backs.{may-write, adds-same, if-written, status-back}
 use Rattle.record.proofs.play_status.PlayStatus.write.Needs as need
@@ -13,9 +9,7 @@ returns c =
     let w = c .args .writer .now in
     let e = c .rows-rows .ensures in
     record {
-      answer = c .add-to .ensures .answer
-        ∙ ap (λ (fs : List (List ℕ)). all-fault (w .len) fs (length (w .out .now))) e
-        ∙ may-write (w .bare) (wrong-status s) (w .len) (status-fields s) (length (w .out .now)) (c .if-not-is-bare .ensures tt) (c .in-rest .ensures tt);
+      answer = may-write _ (w .bare) (wrong-status s) (w .len) (length (w .out .now)) (row-fields (c .rows-rows .result)) (status-fields s) (c .add-to .ensures .answer) e (c .if-not-is-bare .ensures tt) (c .in-rest .ensures tt);
       state = adds-same (c .add-to .result) (row-fields (c .rows-rows .result)) (status-fields s) w (c .add-to .last .writer) e (c .add-to .ensures .state);
       bare = c .add-to .ensures .bare;
       lender = c .add-to .ensures .lender;
