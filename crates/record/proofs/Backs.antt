@@ -90,7 +90,7 @@ pub rows-are : (s : PlayStatus) (r : Rows) (mode : ℕ) → mode ≡ mode-number
     → r .«title_number» ≡ in-digits 5 (s .«title_number») → r .«title_length» ≡ in-digits 5 (s .«title_length») → r .«title_location» ≡ in-digits 5 (s .«title_location»)
     → r .«chapter_number» ≡ in-digits 5 (s .«chapter_number») → r .«chapter_length» ≡ in-digits 5 (s .«chapter_length») → r .«chapter_location» ≡ in-digits 5 (s .«chapter_location»)
     → row-fields r ≡ status-fields s
-unfolding row-fields status-fields in-digits
+unfolding status-fields in-digits
 rows-are s r mode em n m sp tn tl tp cn cl cp =
     let e1 = ap (last-of 1) (m ∙ ap (in-digits 5) em) in
     let e2 = ap (last-of 1) sp in

@@ -43,7 +43,7 @@ status-fields s =
 abbrev pub last-of : ℕ → List ℕ → List ℕ
 last-of width digits = take width (drop (5 - width) digits)
 
-unfoldable pub row-fields : Rows → List (List ℕ)
+abbrev pub row-fields : Rows → List (List ℕ)
 row-fields r =
     r .name ∷ last-of 1 (r .mode) ∷ last-of 1 (r .speed)
     ∷ last-of 2 (r .«title_number») ∷ r .«title_length» ∷ r .«title_location»
