@@ -1,3 +1,4 @@
 pub mod Places
-pub mod Digits
+pub mod Numerals
 pub mod Texts
+pub mod Backs

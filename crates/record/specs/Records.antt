@@ -10,10 +10,10 @@ use Rattle.std.specs.declared.option.Option.the-variants.{Some, None}
 use Rattle.std.specs.declared.result.Result.{Result}
 use Rattle.std.specs.declared.result.Result.the-variants.{Ok, Err}
 use Rattle.escape.specs.Resolving.{written}
-use Rattle.line.specs.Forms.{Side, command, answer}
 use Rattle.line.specs.Lines.{Message}
 use Rattle.line.specs.declared.fault.Fault.{Fault}
 use Rattle.line.specs.declared.fault.Fault.the-variants.{ShortBuffer, RecordForm}
+use Rattle.writer.specs.Writing.{is-answer}
 use Rattle.record.specs.Numbers.{numeral, at-most, counted}
 use Rattle.record.specs.declared.mode.PlayMode.{PlayMode}
 use Rattle.record.specs.declared.mode.PlayMode.the-variants.{NothingPlaying, Paused, Playing, ForwardScan, ReverseScan}
@@ -28,17 +28,13 @@ same-bytes [] (y ∷ ys) = false
 same-bytes (x ∷ xs) [] = false
 same-bytes (x ∷ xs) (y ∷ ys) = cond (eqb x y) (same-bytes xs ys) false
 
-abbrev pub from-player : Side → Bool
-from-player command = false
-from-player answer = true
-
 -- the field of a record, counted from 1: its name is at 0, behind the status
 unfoldable pub field-of : Message → ℕ → List ℕ
 field-of m place = getD (m .fields) (place + 1) []
 
 -- an answer, event or notice with a status, that name, and so many fields behind it
 unfoldable pub is-kind : List ℕ → ℕ → Message → Bool
-is-kind name count m = cond (from-player (m .side)) (cond (same-bytes (field-of m 0) name) (eqb (length (m .fields)) (count + 2)) false) false
+is-kind name count m = cond (is-answer (m .side)) (cond (same-bytes (field-of m 0) name) (eqb (length (m .fields)) (count + 2)) false) false
 
 -- ---- a record, field by field, or the place of the first wrong field
 abbrev pub else-wrong : {X : Type 0} → ℕ → Option X → Result X Fault

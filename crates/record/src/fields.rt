@@ -5,7 +5,8 @@ ghost use lib.Dec.{eqb};
 ghost use lib.ListN.{length};
 ghost use Rattle.escape.specs.Tokens.{resolved};
 ghost use Rattle.line.specs.Meanings.{message-of};
-ghost use Rattle.record.specs.Records.{same-bytes, from-player, is-kind, field-of, number-in, count-in};
+ghost use Rattle.writer.specs.Writing.{is-answer};
+ghost use Rattle.record.specs.Records.{same-bytes, is-kind, field-of, number-in, count-in};
 ghost use Rattle.record.specs.Reads.{Read-below};
 use crate::number::count;
 use crate::number::numeral;
@@ -67,8 +68,8 @@ fn has_fields(message: &Message, count: usize) -> bool
     }
 }
 
-fn is_from_player(message: &Message) -> bool
-    ensures { λ r. ⌜ r ≡ from-player (message-of (now (message .entry)) .side) ⌝ }
+fn is_answer(message: &Message) -> bool
+    ensures { λ r. ⌜ r ≡ is-answer (message-of (now (message .entry)) .side) ⌝ }
 {
     match message {
         Message::Answer { .. } | Message::Event { .. } => true,
@@ -89,7 +90,7 @@ pub(crate) fn is_kind(message: &Message, name: &[u8], count: usize) -> bool
     requires { ⌜ length (now name) ≤ 23 ⌝ ∗ ⌜ count ≤ 8 ⌝ }
     ensures { λ r. ⌜ r ≡ is-kind (now (name .entry)) count (message-of (now (message .entry))) ⌝ }
 {
-    is_from_player(message) && is_named(message, name) && has_fields(message, count + 2)
+    is_answer(message) && is_named(message, name) && has_fields(message, count + 2)
 }
 
 pub(crate) fn number_at(message: &Message, place: usize, width: usize) -> Result<u32, Fault>

@@ -1,9 +1,11 @@
 // The three status messages of a player as records, read from its messages and written into its lines.
+mod digits;
 mod fields;
 mod mode;
 mod number;
 mod overview;
 mod play_status;
+mod play_status_write;
 mod span;
 mod title_name;
 

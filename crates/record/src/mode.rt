@@ -1,6 +1,7 @@
 // The play mode of a player: a digit, of which some have no meaning.
 ghost use mathlib.Core.Path.{_≡_};
 ghost use Rattle.record.specs.Records.{mode-numbered};
+ghost use Rattle.record.specs.Writes.{mode-number};
 use std::fmt;
 
 #[derive(Clone, Copy, PartialEq, Eq, Debug)]
@@ -24,6 +25,18 @@ impl PlayMode {
             4 => Some(PlayMode::ForwardScan),
             6 => Some(PlayMode::ReverseScan),
             _ => None,
+        }
+    }
+
+    pub fn number(&self) -> u32
+        ensures { λ r. ⌜ r ≡ mode-number (now (self .entry)) ⌝ }
+    {
+        match self {
+            PlayMode::NothingPlaying => 0,
+            PlayMode::Paused => 1,
+            PlayMode::Playing => 2,
+            PlayMode::ForwardScan => 4,
+            PlayMode::ReverseScan => 6,
         }
     }
 }

@@ -1,11 +1,20 @@
 // BROWSE_RESULTS_OVERVIEW: what the player found at a handle: its title, the lines in the window, and the lines in all.
 ghost use mathlib.Core.Path.{_≡_};
+ghost use mathlib.Core.Bool.{false};
+ghost use mathlib.Core.List.{[], _∷_};
 ghost use Prim.Native.Nat.{_+_};
 ghost use lib.Dec.{leb};
 ghost use lib.ListN.{length};
+ghost use denote.Ref.{name};
+ghost use Rattle.std.specs.declared.result.Result.the-variants.{Ok, Err};
 ghost use Rattle.line.specs.Meanings.{message-of};
 ghost use Rattle.record.specs.Records.{texts, is-overview, overview, if-read};
 ghost use Rattle.record.specs.Reads.{Put};
+ghost use Rattle.record.specs.Writes.{overview-fields, part, wrong-texts, write-fault, Adds, Overview-back};
+ghost use Rattle.writer.specs.Writing.{refusal, all-fault};
+use crate::digits::count_width;
+use crate::digits::five_digits;
+use crate::digits::last_of;
 use crate::fields::count_at;
 use crate::fields::field_at;
 use crate::fields::is_kind;
@@ -17,6 +26,7 @@ use escape::resolve;
 use escape::resolved_len;
 use line::Fault;
 use line::Message;
+use writer::Writer;
 use std::fmt;
 
 #[derive(Clone, Copy, PartialEq, Eq, Debug)]
@@ -79,6 +89,46 @@ impl BrowseResultsOverview {
             total,
         })
     }
+
+    // Writes the record, whose handle and title lie in `text`, behind the status of an answer.
+    pub fn write(&self, text: &[u8], writer: &mut Writer) -> Result<(), Fault>
+        ensures answer { λ r. ⌜ refusal r ≡ write-fault (now (writer .entry) .bare) (wrong-texts (now (self .entry) .handle) (now (self .entry) .title) (now (text .entry))) (now (writer .entry) .len) (overview-fields (part (now (self .entry) .handle) (now (text .entry))) (part (now (self .entry) .title) (now (text .entry))) (now (self .entry) .lines) (now (self .entry) .total)) (length (now (now (writer .entry) .out))) ⌝ }
+        ensures state { λ r. ⌜ elim r [ Ok _ ↦ Adds (overview-fields (part (now (self .entry) .handle) (now (text .entry))) (part (now (self .entry) .title) (now (text .entry))) (now (self .entry) .lines) (now (self .entry) .total)) (now (writer .entry)) (now (writer .exit)) | Err f ↦ now (writer .exit) ≡ now (writer .entry) ] ⌝ }
+        ensures bare { λ r. ⌜ elim r [ Ok _ ↦ now (writer .exit) .bare ≡ false | Err f ↦ Unit {0} ] ⌝ }
+        ensures lender { λ _. ⌜ name (now (writer .exit) .out) ≡ name (now (writer .entry) .out) ⌝ }
+        ensures back { λ r. ⌜ elim r [ Ok _ ↦ Overview-back (part (now (self .entry) .handle) (now (text .entry))) (part (now (self .entry) .title) (now (text .entry))) (now (self .entry) .lines) (now (self .entry) .total) | Err f ↦ Unit {0} ] ⌝ }
+    {
+        if !writer.is_bare() {
+            return Err(Fault::RecordForm(0));
+        }
+        let Some(handle) = self.handle.of(text) else {
+            return Err(Fault::RecordForm(1));
+        };
+        let Some(title) = self.title.of(text) else {
+            return Err(Fault::RecordForm(2));
+        };
+        let lines = five_digits(self.lines as u32);
+        let total = five_digits(self.total as u32);
+        let lines = last_of(&lines, count_width(self.lines));
+        let total = last_of(&total, count_width(self.total));
+        add_overview(writer, b"BROWSE_RESULTS_OVERVIEW", handle, title, lines, total)
+    }
+}
+
+fn add_overview<'a>(
+    writer: &mut Writer,
+    kind: &'a [u8],
+    handle: &'a [u8],
+    title: &'a [u8],
+    lines: &'a [u8],
+    total: &'a [u8],
+) -> Result<(), Fault>
+    ensures answer { λ r. ⌜ refusal r ≡ all-fault (now (writer .entry) .len) (now (kind .entry) ∷ now (handle .entry) ∷ now (title .entry) ∷ now (lines .entry) ∷ now (total .entry) ∷ []) (length (now (now (writer .entry) .out))) ⌝ }
+    ensures state { λ r. ⌜ elim r [ Ok _ ↦ Adds (now (kind .entry) ∷ now (handle .entry) ∷ now (title .entry) ∷ now (lines .entry) ∷ now (total .entry) ∷ []) (now (writer .entry)) (now (writer .exit)) | Err f ↦ now (writer .exit) ≡ now (writer .entry) ] ⌝ }
+    ensures bare { λ r. ⌜ elim r [ Ok _ ↦ now (writer .exit) .bare ≡ false | Err f ↦ Unit {0} ] ⌝ }
+    ensures lender { λ _. ⌜ name (now (writer .exit) .out) ≡ name (now (writer .entry) .out) ⌝ }
+{
+    writer.add_all(&[kind, handle, title, lines, total])
 }
 
 // How much of what was found is in the window; handle and title are in the caller's buffer.

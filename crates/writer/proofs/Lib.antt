@@ -5,3 +5,4 @@ pub mod Opening
 pub mod Shorter
 pub mod Repeating
 pub mod Pieces
+pub mod Fields

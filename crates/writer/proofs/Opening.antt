@@ -130,11 +130,11 @@ module _ (side : Side) (address first : List ℕ) (mark room : ℕ) where
           }
 
 -- ---- adding
-body-more : (fs : List (List ℕ)) (f : List ℕ) → body-text (fs ++ (f ∷ [])) ≡ body-text fs ++ ended f
+pub body-more : (fs : List (List ℕ)) (f : List ℕ) → body-text (fs ++ (f ∷ [])) ≡ body-text fs ++ ended f
 body-more [] f = append-nil (ended f)
 body-more (g ∷ fs) f = ap (λ (x : List ℕ). ended g ++ x) (body-more fs f) ∙ sym (append-assoc (ended g) (body-text fs) (ended f))
 
-bytes-more : (fs : List (List ℕ)) (f : List ℕ) → Bytes fs → Every (λ b. b < 256) f → Bytes (fs ++ (f ∷ []))
+pub bytes-more : (fs : List (List ℕ)) (f : List ℕ) → Bytes fs → Every (λ b. b < 256) f → Bytes (fs ++ (f ∷ []))
 bytes-more [] f h k = (k, tt)
 bytes-more (g ∷ fs) f h k = (h .0, bytes-more fs f (h .1) k)
 

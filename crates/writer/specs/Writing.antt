@@ -1,16 +1,17 @@
 -- What a writer's calls do: the message that is open, the buffer that it lies in, and why a call is refused.
 use mathlib.Core.Path.{_≡_}
 use mathlib.Core.Bool.{Bool, true, false, cond}
-use mathlib.Core.List.{List, [], _∷_, _++_}
+use mathlib.Core.List.{List, [], _∷_, _++_, map}
 use Prim.Native.Nat.{ℕ, _+_, _<_}
 use lib.Dec.{leb, eqb}
 use lib.ListN.{length, drop}
+use denote.Ref.{RefT}
 use Rattle.std.specs.Options.{isSome}
 use Rattle.std.specs.declared.option.Option.{Option}
 use Rattle.std.specs.declared.option.Option.the-variants.{Some, None}
 use Rattle.std.specs.declared.result.Result.{Result}
 use Rattle.std.specs.declared.result.Result.the-variants.{Ok, Err}
-use Rattle.line.specs.Forms.{Side, Address, address-of, is-mark, is-first-field}
+use Rattle.line.specs.Forms.{Side, command, answer, Address, address-of, is-mark, is-first-field}
 use Rattle.line.specs.Lines.{Message, meant, reading}
 use Rattle.line.specs.declared.fault.Fault.{Fault}
 use Rattle.line.specs.declared.fault.Fault.the-variants.{TooLong, BadAddress, BadMark, FirstField, ShortBuffer}
@@ -28,6 +29,13 @@ begun side address mark first = record { side = side; address = address-read (ad
 
 unfoldable pub with-field : Message → List ℕ → Message
 with-field m field = record { side = m .side; address = m .address; mark = m .mark; fields = m .fields ++ (field ∷ []) }
+
+unfoldable pub with-fields : Message → List (List ℕ) → Message
+with-fields m fields = record { side = m .side; address = m .address; mark = m .mark; fields = m .fields ++ fields }
+
+abbrev pub is-answer : Side → Bool
+is-answer command = false
+is-answer answer = true
 
 -- its line up to the third slash
 abbrev pub unclosed : Message → List ℕ
@@ -76,3 +84,11 @@ begin-fault side address mark first room =
 -- n bytes are written: none if no line is open
 abbrev pub add-fault : ℕ → List ℕ → ℕ → Option Fault
 add-fault n field room = cond (eqb n 0) (Some ShortBuffer) (room-fault (n + length (ended field)) room)
+
+-- several fields at once
+abbrev pub all-fault : ℕ → List (List ℕ) → ℕ → Option Fault
+all-fault n fields room = cond (eqb n 0) (Some ShortBuffer) (room-fault (n + length (body-text fields)) room)
+
+-- what a list of references holds
+abbrev pub behind-all : List (RefT (List ℕ)) → List (List ℕ)
+behind-all refs = map (λ (r : RefT (List ℕ)). r .now) refs

@@ -2,6 +2,7 @@
 mod again;
 mod laws;
 mod page;
+mod several;
 mod spelled;
 mod writing;
 

@@ -1,15 +1,17 @@
 // The calls of a writer: begin a line, add fields to it, close it with its check.
 ghost use mathlib.Core.Path.{_≡_};
+ghost use mathlib.Core.Bool.{false};
 ghost use mathlib.Core.List.{List, [], _∷_, _++_};
 ghost use Prim.Native.Nat.{ℕ, _+_, _<_, _≤_};
 ghost use lib.ListN.{length};
 ghost use denote.Ref.{name};
+ghost use Rattle.std.specs.Vec.{Every};
 ghost use Rattle.std.specs.declared.result.Result.the-variants.{Ok, Err};
 ghost use Rattle.escape.specs.Spelling.{spelled, spelling};
 ghost use Rattle.line.specs.Lines.{Message};
 ghost use Rattle.line.specs.Meanings.{side-of};
 ghost use Rattle.writer.specs.Canonical.{head-text, closed};
-ghost use Rattle.writer.specs.Writing.{Lies, Opened, Closed, begun, with-field, refusal, begin-fault, add-fault};
+ghost use Rattle.writer.specs.Writing.{is-answer, Lies, Opened, Closed, begun, with-field, refusal, begin-fault, add-fault};
 use crate::page::Writer;
 use crate::spelled::numeral;
 use crate::spelled::spelled_within;
@@ -28,10 +30,22 @@ impl<'a> Writer<'a> {
     // A writer over the buffer, with no line open.
     pub fn over(out: &'a mut [u8]) -> Writer<'a>
         ensures none { λ r. ⌜ r .len ≡ 0 ⌝ }
+        ensures bare { λ r. ⌜ r .bare ≡ false ⌝ }
         ensures kept { λ r. ⌜ now (r .out) ≡ now (out .entry) ⌝ }
         ensures lender { λ r. ⌜ name (r .out) ≡ name (out .entry) ⌝ }
     {
-        Writer { out, len: 0 }
+        Writer {
+            out,
+            len: 0,
+            bare: false,
+        }
+    }
+
+    // Whether the line is an answer's, with its status alone.
+    pub fn is_bare(&self) -> bool
+        ensures { λ r. ⌜ r ≡ now (self .entry) .bare ⌝ }
+    {
+        self.bare
     }
 
     // Begins the line of a message with its first field alone; one that is open already is given up.
@@ -44,12 +58,14 @@ impl<'a> Writer<'a> {
     ) -> Result<(), Fault>
         ensures answer { λ r. ⌜ refusal r ≡ begin-fault (side-of side) (now (address .entry)) mark (now (first .entry)) (length (now (now (self .entry) .out))) ⌝ }
         ensures state { λ r. ⌜ elim r [ Ok _ ↦ Opened (now (now (self .entry) .out)) (begun (side-of side) (now (address .entry)) mark (now (first .entry))) (now (now (self .exit) .out)) (now (self .exit) .len) | Err f ↦ now (self .exit) ≡ now (self .entry) ] ⌝ }
+        ensures bare { λ r. ⌜ elim r [ Ok _ ↦ now (self .exit) .bare ≡ is-answer (side-of side) | Err f ↦ Unit {0} ] ⌝ }
         ensures lender { λ _. ⌜ name (now (self .exit) .out) ≡ name (now (self .entry) .out) ⌝ }
     {
         if let Some(fault) = head_fault(side, address, mark, first, self.out.len()) {
             return Err(fault);
         }
         self.open(address, mark as u8, first);
+        self.bare = is_answer(side);
         Ok(())
     }
 
@@ -57,6 +73,7 @@ impl<'a> Writer<'a> {
     pub fn add(&mut self, field: &[u8]) -> Result<(), Fault>
         ensures answer { λ r. ⌜ refusal r ≡ add-fault (now (self .entry) .len) (now (field .entry)) (length (now (now (self .entry) .out))) ⌝ }
         ensures state { λ r. ⌜ elim r [ Ok _ ↦ ((was : List ℕ) (m : Message) → Opened was m (now (now (self .entry) .out)) (now (self .entry) .len) → Opened was (with-field m (now (field .entry))) (now (now (self .exit) .out)) (now (self .exit) .len)) | Err f ↦ now (self .exit) ≡ now (self .entry) ] ⌝ }
+        ensures bare { λ r. ⌜ elim r [ Ok _ ↦ now (self .exit) .bare ≡ false | Err f ↦ Unit {0} ] ⌝ }
         ensures lender { λ _. ⌜ name (now (self .exit) .out) ≡ name (now (self .entry) .out) ⌝ }
     {
         let at = self.len;
@@ -74,6 +91,7 @@ impl<'a> Writer<'a> {
         }
         self.push_field(field);
         self.push(b':');
+        self.bare = false;
         Ok(())
     }
 
@@ -83,7 +101,7 @@ impl<'a> Writer<'a> {
         ensures lies { λ r. ⌜ ((was l : List ℕ) → 0 < self .entry .len → Lies was l (now (self .entry .out)) (self .entry .len) → Lies was (closed l) (now (self .exit .0)) r) ⌝ }
         ensures none { λ r. ⌜ (self .entry .len ≡ 0 → (r ≡ 0) × (now (self .exit .0) ≡ now (self .entry .out))) ⌝ }
     {
-        let Writer { out, len } = self;
+        let Writer { out, len, .. } = self;
         end(out, len)
     }
 
@@ -142,9 +160,10 @@ impl<'a> Writer<'a> {
         }
     }
 
-    fn push_field(&mut self, field: &[u8])
+    pub(crate) fn push_field(&mut self, field: &[u8])
         requires { ⌜ now self .len + length (spelling (now field)) + 3 ≤ length (now (now self .out)) ⌝ ∗ ⌜ now self .len + length (spelling (now field)) + 3 ≤ 1024 ⌝ }
         ensures len { λ _. ⌜ now (self .exit) .len ≡ now (self .entry) .len + length (spelling (now (field .entry))) ⌝ }
+        ensures bytes { λ _. ⌜ Every (λ b. b < 256) (now (field .entry)) ⌝ }
         ensures room { λ _. ⌜ length (now (now (self .exit) .out)) ≡ length (now (now (self .entry) .out)) ⌝ }
         ensures lies { λ _. ⌜ ((was l : List ℕ) → Lies was l (now (now (self .entry) .out)) (now (self .entry) .len) → Lies was (l ++ spelling (now (field .entry))) (now (now (self .exit) .out)) (now (self .exit) .len)) ⌝ }
         ensures lender { λ _. ⌜ name (now (self .exit) .out) ≡ name (now (self .entry) .out) ⌝ }
@@ -152,6 +171,15 @@ impl<'a> Writer<'a> {
         for b in field {
             self.push_spelled(*b);
         }
+    }
+}
+
+fn is_answer(side: Side) -> bool
+    ensures { λ r. ⌜ r ≡ is-answer (side-of side) ⌝ }
+{
+    match side {
+        Side::Command => false,
+        Side::Answer => true,
     }
 }
 

@@ -5,7 +5,7 @@ use Prim.Native.Nat.{ℕ}
 use lib.ListN.{replicate, length}
 use Rattle.escape.specs.Tokens.{resolved}
 use Rattle.record.specs.Records.{same-bytes}
-use Rattle.record.proofs.Digits.{front, too-many}
+use Rattle.record.proofs.Numerals.{front, too-many}
 use Rattle.record.proofs.Places.{same-length}
 use Rattle.record.proofs.fields.means.Needs as need
 

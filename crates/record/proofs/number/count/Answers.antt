@@ -3,7 +3,7 @@ use mathlib.Core.Path.{_≡_, ap, _∙_}
 use lib.ListN.{replicate}
 use Rattle.escape.specs.Tokens.{resolved}
 use Rattle.record.specs.Numbers.{counted}
-use Rattle.record.proofs.Digits.{front, too-many, no-count}
+use Rattle.record.proofs.Numerals.{front, too-many, no-count}
 use Rattle.record.proofs.number.count.Needs as need
 
 pub part-count-of-end : need.part-count-of-end

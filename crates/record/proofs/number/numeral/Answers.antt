@@ -3,7 +3,7 @@ use mathlib.Core.Path.{_≡_, ap, _∙_}
 use lib.ListN.{replicate}
 use Rattle.escape.specs.Tokens.{resolved}
 use Rattle.record.specs.Numbers.{numeral}
-use Rattle.record.proofs.Digits.{front, too-many, no-numeral}
+use Rattle.record.proofs.Numerals.{front, too-many, no-numeral}
 use Rattle.record.proofs.number.numeral.Needs as need
 
 pub part-numeral-of-end : need.part-numeral-of-end

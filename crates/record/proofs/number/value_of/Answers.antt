@@ -2,7 +2,7 @@ use native.Mathlib.Omega.{arith}
 use mathlib.Core.Path.{_≡_, sym, subst, _∙_}
 use Prim.Native.Nat.{ℕ, _^_, _<_}
 use lib.ListN.{length, getD}
-use Rattle.record.proofs.Digits.{few, ten-times, digit-bounds, digit-on, digit-none, digits-end}
+use Rattle.record.proofs.Numerals.{few, ten-times, digit-bounds, digit-on, digit-none, digits-end}
 use Rattle.record.proofs.number.value_of.Needs as need
 
 pub mul-n : need.mul-n

@@ -9,17 +9,17 @@ use Rattle.writer.proofs.page.Writer.add.Needs as need
 pub returns-in-rest : need.returns-in-rest
 returns-in-rest c =
     let h = c .in-rest .ensures tt in
-    record { answer = add-long (c .args .self .now .len) (length (c .args .self .now .out .now)) (c .args .field .now) (omega arith) (omega arith); state = refl; lender = refl }
+    record { answer = add-long (c .args .self .now .len) (length (c .args .self .now .out .now)) (c .args .field .now) (omega arith) (omega arith); state = refl; bare = tt; lender = refl }
 
 pub returns-then-at-n-gt-LINE-MAX : need.returns-then-at-n-gt-LINE-MAX
 returns-then-at-n-gt-LINE-MAX c =
     let h = c .in-Some .ensures tt in
-    record { answer = add-long (c .args .self .now .len) (length (c .args .self .now .out .now)) (c .args .field .now) (omega arith) (omega arith); state = refl; lender = refl }
+    record { answer = add-long (c .args .self .now .len) (length (c .args .self .now .out .now)) (c .args .field .now) (omega arith) (omega arith); state = refl; bare = tt; lender = refl }
 
 pub returns-then-at-n : need.returns-then-at-n
 returns-then-at-n c =
     let h = c .in-Some .ensures tt in
-    record { answer = add-no-room (c .args .self .now .len) (length (c .args .self .now .out .now)) (c .args .field .now) (omega arith) (omega arith) (omega arith); state = refl; lender = refl }
+    record { answer = add-no-room (c .args .self .now .len) (length (c .args .self .now .out .now)) (c .args .field .now) (omega arith) (omega arith) (omega arith); state = refl; bare = tt; lender = refl }
 
 pub returns : need.returns
 returns c =
@@ -30,5 +30,6 @@ returns c =
       answer = add-room (c .args .self .now .len) (length (c .args .self .now .out .now)) (c .args .field .now) (omega arith) (omega arith) (omega arith);
       state = λ was m o. added was (c .args .self .now .out .now) (c .push .last .self .out .now) (c .args .self .now .len) (c .push .last .self .len) m (c .args .field .now) (every-byte (c .args .field .now) (c .typed .field)) (omega arith) o
           (c .push .ensures .lies was _ (c .push-field .ensures .lies was (unclosed m) (o .lies)));
+      bare = refl;
       lender = c .push .ensures .lender ∙ c .push-field .ensures .lender;
     }

@@ -26,5 +26,6 @@ returns c =
     record {
       answer = c .in-rest .ensures tt;
       state = opened side (c .args .address .now) (c .args .first .now) (c .args .mark) (length was) was (c .open .last .self .out .now) (c .open .last .self .len) (h .forms) (c .open .ensures .some) (c .open .ensures .lies);
+      bare = c .is-answer-self .ensures;
       lender = c .open .ensures .lender;
     }

@@ -5,6 +5,7 @@ use native.Mathlib.Omega.{arith}
 use lib.ListN.{length}
 use Rattle.writer.specs.Writing.{Lies}
 use Rattle.writer.proofs.Growing.{spelled-turn, within, longer, spelling-all}
+use Rattle.writer.proofs.Opening.{every-byte}
 use Rattle.writer.proofs.page.Writer.push_field.Needs as need
 
 pub push-spelled-requires : need.push-spelled-requires
@@ -30,6 +31,7 @@ returns c =
     let e = spelling-all (c .args .field .now) (c .loop-b .b-index) (omega arith) in
     record {
       len = omega (arith, ap length e);
+      bytes = every-byte (c .args .field .now) (c .typed .field);
       room = c .loop-b .inv .1;
       lies = λ was m o. subst (λ (x : List ℕ). Lies was (m ++ x) (c .loop-b .self .out .now) (c .loop-b .self .len)) e (c .loop-b .inv .3 was m o);
       lender = c .loop-b .inv .2;
