@@ -94,7 +94,10 @@ pub impl fmt::Display for PlayStatus as PlayStatusDisplay {
         let title = self.title_number;
         let at = self.title_location;
         let of = self.title_length;
-        write!(f, "{mode} at speed {speed}, title {title} at {at} of {of} s")?;
+        write!(
+            f,
+            "{mode} at speed {speed}, title {title} at {at} of {of} s"
+        )?;
         let chapter = self.chapter_number;
         let at = self.chapter_location;
         let of = self.chapter_length;
