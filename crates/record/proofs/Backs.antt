@@ -19,7 +19,7 @@ use Rattle.escape.specs.Tokens.{digit}
 use Rattle.line.specs.Forms.{answer}
 use Rattle.line.specs.Lines.{Message}
 use Rattle.line.specs.declared.fault.Fault.{Fault}
-use Rattle.writer.specs.Writing.{with-fields, is-answer, all-fault}
+use Rattle.writer.specs.Writing.{begun, with-fields, is-answer, all-fault}
 use Rattle.writer.specs.declared.page.Writer.{Writer}
 use Rattle.record.specs.Records.{same-bytes, is-kind, field-of, else-wrong, mode-numbered, mode-of, number-in, count-in, mode-in, speed-in, texts, is-overview, play-status, title-name, overview}
 use Rattle.record.specs.Writes.{mode-number, status-fields, last-of, row-fields, title-fields, overview-fields, wrong-status, unless-wrong, write-fault, Adds, Alone, Status-back, Title-read, Title-back, Overview-read, Overview-back}
@@ -54,7 +54,7 @@ digits-spell (suc width) before n =
     let next : before * 10 + (48 + d - 48) ≡ before * 10 + d = omega arith in
     let split = mod-mul n {m = 10} {c = p} (omega arith) (power-some width) in
     let whole : (before * 10 + d) * p + n % p ≡ before * 10 ^ suc width + n % 10 ^ suc width =
-        rw (power-more width) (omega (arith, add-mul (before * 10) d p, mul-assoc before 10 p, split)) in
+    rw (power-more width) (omega (arith, add-mul (before * 10) d p, mul-assoc before 10 p, split)) in
     ap (λ (t : Bool). cond t (spelled-on (before * 10 + (48 + d - 48)) (in-digits width n)) None) (is-digit d low)
     ∙ ap (λ (k : ℕ). spelled-on k (in-digits width n)) next
     ∙ digits-spell width (before * 10 + d) n
@@ -119,8 +119,8 @@ fitting-status : (s : PlayStatus) → None ≡ wrong-status s → Fitting s
 fitting-status s = go (leb (s .speed) 3) refl (leb (s .«title_number») 99) refl (leb (s .«title_length») 99999) refl (leb (s .«title_location») 99999) refl (leb (s .«chapter_number») 999) refl (leb (s .«chapter_length») 99999) refl (leb (s .«chapter_location») 99999) refl
   where
     go : (a : Bool) → leb (s .speed) 3 ≡ a → (b : Bool) → leb (s .«title_number») 99 ≡ b → (c : Bool) → leb (s .«title_length») 99999 ≡ c → (d : Bool) → leb (s .«title_location») 99999 ≡ d
-      → (f : Bool) → leb (s .«chapter_number») 999 ≡ f → (g : Bool) → leb (s .«chapter_length») 99999 ≡ g → (h : Bool) → leb (s .«chapter_location») 99999 ≡ h
-      → _≡_ {A = Option ℕ} None (cond a (cond b (cond c (cond d (cond f (cond g (cond h None (Some 8)) (Some 7)) (Some 6)) (Some 5)) (Some 4)) (Some 3)) (Some 2)) → Fitting s
+        → (f : Bool) → leb (s .«chapter_number») 999 ≡ f → (g : Bool) → leb (s .«chapter_length») 99999 ≡ g → (h : Bool) → leb (s .«chapter_location») 99999 ≡ h
+        → _≡_ {A = Option ℕ} None (cond a (cond b (cond c (cond d (cond f (cond g (cond h None (Some 8)) (Some 7)) (Some 6)) (Some 5)) (Some 4)) (Some 3)) (Some 2)) → Fitting s
     go true ea true eb true ec true ed true ef true eg true eh e = record {
       speed = leb-true _ _ ea;
       number = omega (arith, leb-true _ _ eb);
@@ -212,8 +212,8 @@ unfolding overview-fields field-of texts count-in is-overview
 overview-back handle title lines total l t m a = alone-with m (overview-fields handle title lines total) a (Overview-read handle title lines total) (λ status. record {
   text = refl;
   is = λ room h. overview-by-fields (behind m status (overview-fields handle title lines total)) handle title lines total room
-    (kind-is m status (codes "BROWSE_RESULTS_OVERVIEW") (handle ∷ title ∷ in-count lines ∷ in-count total ∷ []) 4 (a .side) refl (same-self (codes "BROWSE_RESULTS_OVERVIEW")))
-    (ap (else-wrong 3) (count-back lines l)) (ap (else-wrong 4) (count-back total t)) refl refl h;
+      (kind-is m status (codes "BROWSE_RESULTS_OVERVIEW") (handle ∷ title ∷ in-count lines ∷ in-count total ∷ []) 4 (a .side) refl (same-self (codes "BROWSE_RESULTS_OVERVIEW")))
+      (ap (else-wrong 3) (count-back lines l)) (ap (else-wrong 4) (count-back total t)) refl refl h;
 })
 
 -- the digits of a count are the last of five
@@ -240,3 +240,8 @@ title-fields-are title whole e = cc
 pub overview-fields-are : (handle title lines total h t : List ℕ) (n k : ℕ) → handle ≡ h → title ≡ t → lines ≡ in-count n → total ≡ in-count k → codes "BROWSE_RESULTS_OVERVIEW" ∷ handle ∷ title ∷ lines ∷ total ∷ [] ≡ overview-fields h t n k
 unfolding overview-fields
 overview-fields-are handle title lines total h t n k eh et el ek = cc
+
+-- ---- what a writer begins for an answer has its status alone
+pub alone-begun : (address status : List ℕ) (mark : ℕ) → Alone (begun answer address mark status)
+unfolding begun
+alone-begun address status mark = record { side = refl; status = refl }

@@ -115,7 +115,9 @@ pub record Overview-read (handle title : List ℕ) (lines total : ℕ) (m : Mess
   pub is : (room : ℕ) → length (handle ++ title) ≤ room → overview m room ≡ Ok (record {
     handle = record { start = 0; end = length handle };
     title = record { start = length handle; end = length (handle ++ title) };
-    lines = lines; total = total })
+    lines = lines;
+    total = total;
+  })
 
 abbrev pub Overview-back : List ℕ → List ℕ → ℕ → ℕ → Type 0
 Overview-back handle title lines total = (m : Message) → Alone m → Overview-read handle title lines total (with-fields m (overview-fields handle title lines total))

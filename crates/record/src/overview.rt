@@ -26,8 +26,8 @@ use escape::resolve;
 use escape::resolved_len;
 use line::Fault;
 use line::Message;
-use writer::Writer;
 use std::fmt;
+use writer::Writer;
 
 #[derive(Clone, Copy, PartialEq, Eq, Debug)]
 pub struct BrowseResultsOverview {
@@ -111,7 +111,14 @@ impl BrowseResultsOverview {
         let total = five_digits(self.total as u32);
         let lines = last_of(&lines, count_width(self.lines));
         let total = last_of(&total, count_width(self.total));
-        add_overview(writer, b"BROWSE_RESULTS_OVERVIEW", handle, title, lines, total)
+        add_overview(
+            writer,
+            b"BROWSE_RESULTS_OVERVIEW",
+            handle,
+            title,
+            lines,
+            total,
+        )
     }
 }
 

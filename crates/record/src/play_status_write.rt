@@ -33,17 +33,19 @@ impl Rows {
         ensures bare { λ r. ⌜ elim r [ Ok _ ↦ now (writer .exit) .bare ≡ false | Err f ↦ Unit {0} ] ⌝ }
         ensures lender { λ _. ⌜ name (now (writer .exit) .out) ≡ name (now (writer .entry) .out) ⌝ }
     {
-        writer.add_all(&[
-            &self.name,
-            &self.mode[4..5],
-            &self.speed[4..5],
-            &self.title_number[3..5],
-            &self.title_length,
-            &self.title_location,
-            &self.chapter_number[2..5],
-            &self.chapter_length,
-            &self.chapter_location,
-        ])
+        writer.add_all(
+            &[
+                &self.name,
+                &self.mode[4..5],
+                &self.speed[4..5],
+                &self.title_number[3..5],
+                &self.title_length,
+                &self.title_location,
+                &self.chapter_number[2..5],
+                &self.chapter_length,
+                &self.chapter_location,
+            ],
+        )
     }
 }
 

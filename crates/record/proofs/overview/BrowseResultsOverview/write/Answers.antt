@@ -23,11 +23,11 @@ returns c =
     let given = codes "BROWSE_RESULTS_OVERVIEW" ∷ handle ∷ title ∷ lines ∷ total ∷ [] in
     let fields = overview-fields (part (s .handle) text) (part (s .title) text) (s .lines) (s .total) in
     let e : given ≡ fields = overview-fields-are handle title lines total (part (s .handle) text) (part (s .title) text) (s .lines) (s .total) (h .1) (t .1)
-        (c .last-of-lines .ensures ∙ count-digits (s .lines) (c .five-digits-lines .result) (c .count-width .result) (c .five-digits-lines .ensures) (c .count-width .ensures))
-        (c .last-of-total .ensures ∙ count-digits (s .total) (c .five-digits-total .result) (c .count-width-2 .result) (c .five-digits-total .ensures) (c .count-width-2 .ensures)) in
+    (c .last-of-lines .ensures ∙ count-digits (s .lines) (c .five-digits-lines .result) (c .count-width .result) (c .five-digits-lines .ensures) (c .count-width .ensures))
+    (c .last-of-total .ensures ∙ count-digits (s .total) (c .five-digits-total .result) (c .count-width-2 .result) (c .five-digits-total .ensures) (c .count-width-2 .ensures)) in
     record {
       answer = may-write _ (w .bare) (wrong-texts (s .handle) (s .title) text) (w .len) (length (w .out .now)) given fields (c .add-overview .ensures .answer) e (c .if-not-is-bare .ensures tt)
-        (ap (λ (b : Bool). cond b None (Some 2)) (t .0) ∙ ap (λ (b : Bool). cond b (cond (within (s .title) text) None (Some 2)) (Some 1)) (h .0));
+          (ap (λ (b : Bool). cond b None (Some 2)) (t .0) ∙ ap (λ (b : Bool). cond b (cond (within (s .title) text) None (Some 2)) (Some 1)) (h .0));
       state = adds-same (c .add-overview .result) given fields w (c .add-overview .last .writer) e (c .add-overview .ensures .state);
       bare = c .add-overview .ensures .bare;
       lender = c .add-overview .ensures .lender;
