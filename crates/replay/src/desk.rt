@@ -1,7 +1,7 @@
 // A desk: a link, and the tickets that the script holds of it.
 ghost use mathlib.Core.Path.{_≡_};
-ghost use mathlib.Core.List.{[]};
-ghost use Prim.Native.Nat.{_<_};
+ghost use mathlib.Core.List.{List};
+ghost use Prim.Native.Nat.{ℕ, _<_};
 ghost use lib.ListN.{getD, set, replicate};
 ghost use Rattle.std.specs.declared.option.Option.the-variants.{Some, None};
 ghost use Rattle.link.specs.Meanings.{state as state-of};
@@ -87,6 +87,7 @@ impl<P: Port> Desk<P> {
     }
 
     fn settle(&mut self, n: usize) -> Row
+        ensures { λ r. ⌜ ((b : List ℕ) → Obeyed (state-of (P·Port .meaning (now (self .entry) .link .port)) (now (self .entry) .link .core)) (state-of (P·Port .meaning (now (self .exit) .link .port)) (now (self .exit) .link .core)) (now (self .entry) .tickets) (now (self .exit) .tickets) b b (settle n) r) ⌝ }
     {
         if n >= 10 {
             return Row::NoTicket;

@@ -21,11 +21,13 @@ fn without_return(line: &[u8]) -> &[u8]
     ensures { λ r. ⌜ now r ≡ without-return (now (line .entry)) ⌝ }
 {
     let len = line.len();
-    if len > 0 && line[len - 1] == b'\r' {
-        &line[0..len - 1]
-    } else {
-        line
+    if len == 0 {
+        return line;
     }
+    if line[len - 1] == b'\r' {
+        return &line[0..len - 1];
+    }
+    line
 }
 
 // The first line, without its end, and what follows it. The last line need not be ended.
