@@ -2,6 +2,7 @@
 use mathlib.Core.Path.{_≡_}
 use mathlib.Core.List.{List}
 use Prim.Native.Nat.{ℕ, _<_, _≤_}
+use lib.Chars.{codes}
 use lib.ListN.{length, getD, set, take, drop}
 use Rattle.std.specs.declared.option.Option.{Option}
 use Rattle.std.specs.declared.option.Option.the-variants.{Some, None}
@@ -9,7 +10,7 @@ use Rattle.std.specs.declared.result.Result.the-variants.{Ok, Err}
 use Rattle.escape.specs.Tokens.{resolved}
 use Rattle.escape.specs.Resolving.{written}
 use Rattle.line.specs.declared.fault.Fault.{Fault}
-use Rattle.life.specs.Link.{State, Arrives, Departs, Clears, Settled, Resets}
+use Rattle.life.specs.Link.{State, New, Arrives, Departs, Clears, Settled, Resets}
 use Rattle.link.specs.Meanings.{Pumps}
 use Rattle.link.specs.Submitting.{Submitted}
 use Rattle.link.specs.declared.pumped.Pumped.{Pumped}
@@ -48,8 +49,12 @@ pub data Obeyed (s t : State) (held left : Tickets) (old new : List ℕ) : Asked
       → Obeyed s t held left old new (settle n) (SettledRow o)
   not-held : {n : ℕ} → Settled-if s (getD held n None) None t → left ≡ set held n None → new ≡ old
       → Obeyed s t held left old new (settle n) NoTicket
+  -- there are ten numbers
+  no-number : {n : ℕ} → 10 ≤ n → t ≡ s → left ≡ held → new ≡ old → Obeyed s t held left old new (settle n) NoTicket
   -- a ticket with link number 2
   settled-other : {o : Outcome} (n : ℕ) → Settled s 2 n (outcome-of o) t → left ≡ held → new ≡ old → Obeyed s t held left old new settle-other (SettledRow o)
+  -- a new link would refuse the command
+  none-other : {f : Fault} (u v : State) → New u → Submitted u (codes "01") (codes "PLAY:") (Err f) v → t ≡ s → left ≡ held → new ≡ old → Obeyed s t held left old new settle-other (Refused f)
   were-lost : {count : ℕ} → Resets s count t → left ≡ held → new ≡ old → Obeyed s t held left old new reset (Reset count)
   arrived : {text : List ℕ} {k : ℕ} → Arrives s (resolved text) k t → length (resolved text) ≤ length old → new ≡ written (resolved text) old
       → left ≡ held → Obeyed s t held left old new (arrive text) (Arrived k)

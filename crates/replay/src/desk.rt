@@ -49,20 +49,23 @@ impl<P: Port> Desk<P> {
         }
     }
 
-    // Holds the ticket. The link gives no number whose ticket is out, so none was held for this one.
-    fn hold(&mut self, n: usize, ticket: Ticket)
+    // Holds the ticket for its number. One that was held for it would be settled, and the link gives no number whose ticket is out.
+    fn hold(&mut self, n: usize, ticket: Ticket) -> Option<Outcome>
         requires { ⌜ n < 10 ⌝ }
+        ensures before { λ r. ⌜ Settled-if (state-of (P·Port .meaning (now (self .entry) .link .port)) (now (self .entry) .link .core)) (getD (now (self .entry) .tickets) n None) r (state-of (P·Port .meaning (now (self .exit) .link .port)) (now (self .exit) .link .core)) ⌝ }
+        ensures tickets { λ _. ⌜ now (self .exit) .tickets ≡ set (now (self .entry) .tickets) n (Some ticket) ⌝ }
     {
         let before = self.tickets[n].replace(ticket);
-        let _ = settle_held(&mut self.link, before);
+        settle_held(&mut self.link, before)
     }
 
     fn submit(&mut self, address: &[u8], body: &[u8]) -> Row
+        ensures { λ r. ⌜ ((b : List ℕ) → Obeyed (state-of (P·Port .meaning (now (self .entry) .link .port)) (now (self .entry) .link .core)) (state-of (P·Port .meaning (now (self .exit) .link .port)) (now (self .exit) .link .core)) (now (self .entry) .tickets) (now (self .exit) .tickets) b b (submit (now (address .entry)) (now (body .entry))) r) ⌝ }
     {
         match self.link.submit(address, body) {
             Ok(ticket) => {
                 let n = ticket.number();
-                self.hold(n as usize, ticket);
+                let _ = self.hold(n as usize, ticket);
                 Row::Ticket(n)
             }
             Err(fault) => Row::Refused(fault),
@@ -101,6 +104,7 @@ impl<P: Port> Desk<P> {
 
     // A ticket of another link, that is made for it.
     fn settle_other(&mut self) -> Row
+        ensures { λ r. ⌜ ((b : List ℕ) → Obeyed (state-of (P·Port .meaning (now (self .entry) .link .port)) (now (self .entry) .link .core)) (state-of (P·Port .meaning (now (self .exit) .link .port)) (now (self .exit) .link .core)) (now (self .entry) .tickets) (now (self .exit) .tickets) b b (settle-other) r) ⌝ }
     {
         let mut other = Link::new(Serial::new(), OTHER_LINK);
         match other.submit(b"01", b"PLAY:") {
@@ -119,7 +123,9 @@ impl<P: Port> Desk<P> {
     }
 
     // Does what is asked for, and answers its row.
-    pub fn obey(&mut self, call: Call<'_>, buffer: &mut [u8]) -> Row {
+    pub fn obey(&mut self, call: Call<'_>, buffer: &mut [u8]) -> Row
+        ensures { λ r. ⌜ Obeyed (state-of (P·Port .meaning (now (self .entry) .link .port)) (now (self .entry) .link .core)) (state-of (P·Port .meaning (now (self .exit) .link .port)) (now (self .exit) .link .core)) (now (self .entry) .tickets) (now (self .exit) .tickets) (now (buffer .entry)) (now (buffer .exit)) (asked (call .entry)) r ⌝ }
+    {
         match call {
             Call::Submit { address, body } => self.submit(address, body),
             Call::Pump(n) => self.pump(n, buffer),
