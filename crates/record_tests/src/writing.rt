@@ -39,7 +39,7 @@ fn titles() -> Result<(), Fail> {
     let record = TitleName {
         title: Span { start: 2, end: 5 },
     };
-    let mut out = [0; 64];
+    let mut out = [0; 28];
     let mut writer = Writer::over(&mut out);
     check(record.write(b"--A:B", &mut writer) == Err(Fault::RecordForm(0)))?;
     check(writer.begin(Side::Answer, b"01", '!', b"000") == Ok(()))?;
@@ -47,7 +47,7 @@ fn titles() -> Result<(), Fail> {
     check(record.write(b"--A:B", &mut writer) == Ok(()))?;
     check(record.write(b"--A:B", &mut writer) == Err(Fault::RecordForm(0)))?;
     check(writer.close() == 28)?;
-    check(out[0..28] == *b"01/!/000:TITLE_NAME:A\\:B:/40")
+    check(out == *b"01/!/000:TITLE_NAME:A\\:B:/40")
 }
 
 // An overview's counts have no leading zeros.
@@ -59,11 +59,10 @@ fn overviews() -> Result<(), Fail> {
         lines: 5,
         total: 65535,
     };
-    let mut out = [0; 64];
+    let mut out = [0; 56];
     let mut writer = Writer::over(&mut out);
     check(writer.begin(Side::Answer, b"01", '1', b"000") == Ok(()))?;
     check(record.write(b"musicMusic", &mut writer) == Ok(()))?;
-    let length = writer.close();
-    check(length == 56)?;
-    check(out[0..54] == *b"01/1/000:BROWSE_RESULTS_OVERVIEW:music:Music:5:65535:/")
+    check(writer.close() == 56)?;
+    check(out == *b"01/1/000:BROWSE_RESULTS_OVERVIEW:music:Music:5:65535:/03")
 }
