@@ -102,7 +102,7 @@ pub fn cut(s: &[u8], at: u8) -> Option<(&[u8], &[u8])>
                 }
                 rest = more;
             }
-            Front::Escape(_, more) => rest = more,
+            Front::Escape(_, more) => rest = more, // no place to cut
         }
     }
 }
