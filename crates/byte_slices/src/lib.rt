@@ -1,4 +1,6 @@
 // Copies between byte slices that stop where either side ends, so that no caller has to size them first.
+#![tactic(auto)]
+
 ghost use Rattle.std.specs.Prelude.{◌≡◌, min, ◌++◌, length, take, drop};
 ghost use Rattle.byte_slices.specs.Parts.{Filled, Copied};
 

@@ -1,4 +1,6 @@
 // The escapes of a line: which bytes stand inside one, and what they mean.
+#![tactic(auto)]
+
 ghost use Rattle.std.specs.Prelude.{◌≡◌};
 ghost use Rattle.escape.specs.Tokens.{short, numbered, tokens, parts, first_broken};
 ghost use Rattle.escape.specs.Fronts.{opened, halved, Joins};

@@ -1,4 +1,6 @@
 // Tells what lines mean: a row for each line in the first 65,536 bytes of standard input.
+#![tactic(auto)]
+
 mod lines;
 mod row;
 

@@ -1,5 +1,7 @@
 // What is promised of a link for its whole life, and the proof that every history keeps it. There is no code here:
 // each function stands for the theorem in its contract.
+#![tactic(auto)]
+
 ghost use Rattle.life.specs.Kept.{Kept, NoLonger};
 ghost use Rattle.life.specs.Possible.{Possible};
 

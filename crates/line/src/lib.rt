@@ -1,4 +1,6 @@
 // Reading one line of bytes, given without its end, as a command or as an answer.
+#![tactic(auto)]
+
 mod address;
 mod body;
 mod check;

@@ -1,5 +1,7 @@
 // A link to a player over any byte port: it numbers commands, lines come out of the port, and each is told by its kind and matched
 // to the command that it answers.
+#![tactic(auto)]
+
 mod core;
 mod link;
 mod pumped;

@@ -1,4 +1,6 @@
 // Tests of a link over a serial port.
+#![tactic(auto)]
+
 #[cfg(test)]
 mod answering;
 #[cfg(test)]

@@ -1,4 +1,6 @@
 // Tells a recording of a player's lines row by row: the first 65,536 bytes of standard input are played as a tape.
+#![tactic(auto)]
+
 use anyhow::anyhow;
 use line::Fault;
 use link::{Kind, Link, Pumped};

@@ -1,5 +1,7 @@
 // The ten numbers of a link: how each stands, what comes next in the answer to each, and that the link's codec keeps the laws that
 // the promises of its whole life need.
+#![tactic(auto)]
+
 ghost use Rattle.life.specs.Codec.{Lawful};
 ghost use Rattle.numbers.specs.Ours.{ours};
 

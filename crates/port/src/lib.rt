@@ -1,4 +1,6 @@
 // A byte port: bytes arrive from the line and are read by the program, bytes are written by the program and depart to the line.
+#![tactic(auto)]
+
 ghost use Rattle.std.specs.Prelude.{◌≡◌};
 ghost use Rattle.port.specs.Port.{Meaning, Arrived, Departed, Fetched, Written, Cleared, HungUp};
 

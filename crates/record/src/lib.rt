@@ -1,4 +1,6 @@
 // The three status messages of a player as records, read from its messages and written into its lines.
+#![tactic(auto)]
+
 mod digits;
 mod fields;
 mod mode;

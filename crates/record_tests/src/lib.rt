@@ -1,4 +1,6 @@
 // Records written into whole lines, with tests of what is written and read.
+#![tactic(auto)]
+
 ghost use Rattle.std.specs.Prelude.{◌≡◌, Ok, Err};
 ghost use Rattle.line.specs.Forms.{answer};
 ghost use Rattle.line.specs.Lines.{Message};

@@ -1,4 +1,6 @@
 // Drives a link by a script: the first 65,536 bytes of standard input, a call to a line, and a row for each.
+#![tactic(auto)]
+
 mod desk;
 mod lines;
 mod row;

@@ -1,4 +1,6 @@
 // Commands as callers give them: an address and a body with its escapes, made into the command's canonical line.
+#![tactic(auto)]
+
 mod composing;
 mod laws;
 mod preparing;

@@ -1,4 +1,6 @@
 // Lines of a script for the link, one call to a line.
+#![tactic(auto)]
+
 mod call;
 mod words;
 

@@ -1,5 +1,7 @@
 // One search, from the name typed to the count shown: the command is sent, a player's answer arrives in two pieces, and the
 // count that the player tells is printed with what became of the ticket.
+#![tactic(auto)]
+
 use anyhow::anyhow;
 use link::{Link, Pumped, message};
 use numbers::{Outcome, number_of};

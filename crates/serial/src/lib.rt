@@ -1,4 +1,6 @@
 // A port over a serial line: a queue of bytes for each direction, in memory of its own.
+#![tactic(auto)]
+
 mod queue;
 mod serial;
 #[cfg(test)]

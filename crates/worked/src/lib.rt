@@ -1,4 +1,6 @@
 // The worked lines of the protocol, in one statement that the checker computes.
+#![tactic(auto)]
+
 ghost use Rattle.worked.specs.Examples.{Worked};
 
 // Every worked line means what it should.

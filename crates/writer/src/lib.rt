@@ -1,4 +1,6 @@
 // Writing messages: each has one canonical line, which is written into a buffer of the caller's.
+#![tactic(auto)]
+
 mod again;
 mod laws;
 mod page;

@@ -1,4 +1,6 @@
 // A line written by a chain of a writer's calls, with tests of what is written and read.
+#![tactic(auto)]
+
 ghost use Rattle.std.specs.Prelude.{◌≡◌, [], ◌∷◌, Ok, Err};
 ghost use Rattle.line.specs.Forms.{command};
 ghost use Rattle.writer.specs.Writing.{Closed, begun, with_field};
