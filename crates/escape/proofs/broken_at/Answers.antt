@@ -6,8 +6,8 @@ use Rattle.escape.proofs.broken_at.Goals as goal
 pub loop-more-init : goal.loop-more-init
 loop-more-init c = sought_start c.args.s.now
 
-pub overflow-sub-result : goal.overflow-sub-result
-overflow-sub-result c = within_sought c.args.s.now c.loop-more.rest.now c.loop-more.invariant
+pub overflow_sub-result : goal.overflow_sub-result
+overflow_sub-result c = within_sought c.args.s.now c.loop-more.rest.now c.loop-more.invariant
 
 pub returns-in-Broken : goal.returns-in-Broken
 returns-in-Broken c = sought_found c.args.s.now c.loop-more.rest.now _ c.in-Broken.ensures c.loop-more.invariant

@@ -9,8 +9,8 @@ loop-b-init c = passed_start c.args.at c.args.s.now
 pub returns-in-Over : goal.returns-in-Over
 returns-in-Over c = record { parts = passed_all c.args.at c.args.s.now c.loop-b.rest.now _ c.in-Over.ensures refl c.loop-b.invariant; joins = tt }
 
-pub overflow-sub-result : goal.overflow-sub-result
-overflow-sub-result c = within c.args.at c.args.s.now c.loop-b.rest.now c.loop-b.invariant
+pub overflow_sub-result : goal.overflow_sub-result
+overflow_sub-result c = within c.args.at c.args.s.now c.loop-b.rest.now c.loop-b.invariant
 
 pub returns-then-b-at : goal.returns-then-b-at
 returns-then-b-at c = record {

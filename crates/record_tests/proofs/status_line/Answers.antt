@@ -7,4 +7,4 @@ use Rattle.record_tests.proofs.status_line.Goals as goal
 pub returns : goal.returns
 returns c =
     let m = begun answer c.args.address.now c.args.mark c.args.status.now in
-    record { line = search rules; back = c.in-ok-write.ensures.back m (alone_begun c.args.address.now c.args.status.now c.args.mark) }
+    record { line = search rules; back = c.in_ok-write.ensures.back m (alone_begun c.args.address.now c.args.status.now c.args.mark) }

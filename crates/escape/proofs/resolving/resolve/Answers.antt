@@ -3,8 +3,8 @@ use Rattle.escape.specs.Tokens.{resolved}
 use Rattle.escape.proofs.Fronting.{laid, laid_more, laid_all, fits, wrote, too_long}
 use Rattle.escape.proofs.resolving.resolve.Goals as goal
 
-pub returns-then-resolved-len-out : goal.returns-then-resolved-len-out
-returns-then-resolved-len-out c = let h = too_long (resolved c.args.field.now) c.args.out.now (omega arith) in record { answer = h.0; after = h.1 }
+pub returns-then-resolved_len-out : goal.returns-then-resolved_len-out
+returns-then-resolved_len-out c = let h = too_long (resolved c.args.field.now) c.args.out.now (omega arith) in record { answer = h.0; after = h.1 }
 
 pub loop-b-preserved : goal.loop-b-preserved
 loop-b-preserved c =
@@ -18,7 +18,7 @@ loop-b-preserved c =
 pub returns : goal.returns
 returns c =
     let bs = resolved c.args.field.now in
-    let e = c.in-default.ensures.meaning in
+    let e = c.in_default.ensures.meaning in
     let n = ap length e in
     record {
       answer = fits bs c.args.out.now c.loop-b.n (omega arith) (omega arith);

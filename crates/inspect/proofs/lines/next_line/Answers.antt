@@ -5,8 +5,8 @@ use Rattle.inspect.proofs.lines.next_line.Goals as goal
 pub loop-i-init : goal.loop-i-init
 loop-i-init c = none_passed c.args.bytes.now
 
-pub returns-then-is-end : goal.returns-then-is-end
-returns-then-is-end c = record {
+pub returns-then-is_end : goal.returns-then-is_end
+returns-then-is_end c = record {
   cut = ends_here c.args.bytes.now c.loop-i.i c.loop-i.invariant (search rules) (search rules);
   shorter = less_left c.args.bytes.now c.loop-i.i (search rules);
 }

@@ -4,8 +4,8 @@ use Rattle.inspect.specs.Meanings.{kind_said}
 use Rattle.inspect.proofs.Telling.{refused, within, tells}
 use Rattle.inspect.proofs.row.message_row.Goals as goal
 
-pub slice-bounds-result-end : goal.slice-bounds-result-end
-slice-bounds-result-end c =
+pub slice_bounds-result-end : goal.slice_bounds-result-end
+slice_bounds-result-end c =
     let fits = within (message_of c.args.message.now) c.args.buffer.now c.rewrite.new.out c.in-Ok.len c.requires.0 c.requires.1 c.in-Ok.ensures.answer c.in-Ok.ensures.after in
     search rules
 

@@ -7,7 +7,7 @@ use Rattle.numbers.proofs.listing.is_named.Goals as goal
 
 pub returns-in-Some : goal.returns-in-Some
 returns-in-Some c =
-    c.field-is.ensures
+    c.field_is.ensures
     ∙ ap (λ (third : Option (List ℕ)). is_text c.args.name.now (if_there third (slice_get (message_of c.args.message.now).fields 1)))
     (field_some c.args.message.now 4 _ c.in-Some.ensures (omega arith))
 

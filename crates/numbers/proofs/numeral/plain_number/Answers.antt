@@ -7,20 +7,20 @@ use Rattle.numbers.specs.Browse.{value_after, at_most}
 use Rattle.numbers.proofs.Numerals.{value_more, value_all, ten_more, ten_most, number_is, no_digits, digit_most}
 use Rattle.numbers.proofs.numeral.plain_number.Goals as goal
 
-pub overflow-mul-value : goal.overflow-mul-value
-overflow-mul-value c = let h = ten_most c.loop-d.d-index (omega arith) in let i = c.loop-d.invariant.2 in omega arith
+pub overflow_mul-value : goal.overflow_mul-value
+overflow_mul-value c = let h = ten_most c.loop-d.d-index (omega arith) in let i = c.loop-d.invariant.2 in omega arith
 
-pub overflow-add-value : goal.overflow-add-value
-overflow-add-value c = let h = ten_most c.loop-d.d-index (omega arith) in let i = c.loop-d.invariant.2 in omega arith
+pub overflow_add-value : goal.overflow_add-value
+overflow_add-value c = let h = ten_most c.loop-d.d-index (omega arith) in let i = c.loop-d.invariant.2 in omega arith
 
-pub returns-then-not-is-digit : goal.returns-then-not-is-digit
-returns-then-not-is-digit c = no_digits c.args.digits.now (sym (every_stop digit c.args.digits.now c.args.digits.now c.loop-d.d-index c.loop-d.invariant.0 (search rules) (search rules)))
+pub returns-then-not-is_digit : goal.returns-then-not-is_digit
+returns-then-not-is_digit c = no_digits c.args.digits.now (sym (every_stop digit c.args.digits.now c.args.digits.now c.loop-d.d-index c.loop-d.invariant.0 (search rules) (search rules)))
 
 pub loop-d-preserved : goal.loop-d-preserved
 loop-d-preserved c =
     let s = c.args.digits.now in
     let i = c.loop-d.d-index in
-    let is = c.if-not-is-digit.ensures in
+    let is = c.if-not-is_digit.ensures in
     let most : get_or s i 0 - 48 ≤ 9 = digit_most (get_or s i 0) (sym is) in
     let e = c.from.ensures in (
       every_more digit s s i c.loop-d.invariant.0 (search rules) (sym is),

@@ -6,7 +6,7 @@ use Rattle.numbers.proofs.text.is_text.Goals as goal
 
 pub returns-in-Some : goal.returns-in-Some
 returns-in-Some c =
-    c.same-bytes.ensures
+    c.same_bytes.ensures
     ∙ ap (λ (x : List ℕ). same_bytes x c.args.text.now) (fits_some (resolved c.args.field.now) c.in-Some.bytes.now _ c.in-Some.ensures)
 
 pub returns-in-None : goal.returns-in-None

@@ -3,8 +3,8 @@ use Rattle.escape.specs.Tokens.{resolved}
 use Rattle.numbers.proofs.Texts.{some_fits, fitted, not_fitted}
 use Rattle.numbers.proofs.text.resolved_in.Goals as goal
 
-pub slice-bounds-result-end : goal.slice-bounds-result-end
-slice-bounds-result-end c =
+pub slice_bounds-result-end : goal.slice_bounds-result-end
+slice_bounds-result-end c =
     let f = some_fits (resolved c.args.field.now) (length c.args.buffer.now) c.in-Some.len c.in-Some.ensures.answer in
     let same = c.resolve.auto.out in
     search rules

@@ -5,11 +5,11 @@ use Rattle.record.proofs.Numerals.{front, too_many}
 use Rattle.record.proofs.Places.{same_length}
 use Rattle.record.proofs.fields.means.Goals as goal
 
-pub slice-bounds-same-bytes-end : goal.slice-bounds-same-bytes-end
-slice-bounds-same-bytes-end c = let h = front (resolved c.args.raw.now) (replicate 23 0) c.resolve.new.out c.in-Some.len c.in-Some.ensures.answer c.in-Some.ensures.after in omega (arith, c.resolve.auto.out)
+pub slice_bounds-same_bytes-end : goal.slice_bounds-same_bytes-end
+slice_bounds-same_bytes-end c = let h = front (resolved c.args.raw.now) (replicate 23 0) c.resolve.new.out c.in-Some.len c.in-Some.ensures.answer c.in-Some.ensures.after in omega (arith, c.resolve.auto.out)
 
 pub returns-in-Some : goal.returns-in-Some
-returns-in-Some c = c.same-bytes.ensures ∙ ap (λ (s : List ℕ). same_bytes s c.args.name.now) (front (resolved c.args.raw.now) (replicate 23 0) c.resolve.new.out c.in-Some.len c.in-Some.ensures.answer c.in-Some.ensures.after).0
+returns-in-Some c = c.same_bytes.ensures ∙ ap (λ (s : List ℕ). same_bytes s c.args.name.now) (front (resolved c.args.raw.now) (replicate 23 0) c.resolve.new.out c.in-Some.len c.in-Some.ensures.answer c.in-Some.ensures.after).0
 
 pub returns-in-None : goal.returns-in-None
 returns-in-None c =

@@ -2,27 +2,27 @@ use Rattle.std.proofs.Common.{◌≡◌, ℕ, ◌^◌, ◌<◌, length, get_or, 
 use Rattle.record.proofs.Numerals.{few, ten_times, digit_bounds, digit_on, digit_none, digits_end}
 use Rattle.record.proofs.number.value_of.Goals as goal
 
-pub overflow-mul-n : goal.overflow-mul-n
-overflow-mul-n c = let h = few c.loop-d.d-index (omega arith) in omega (arith, c.loop-d.invariant.0)
+pub overflow_mul-n : goal.overflow_mul-n
+overflow_mul-n c = let h = few c.loop-d.d-index (omega arith) in omega (arith, c.loop-d.invariant.0)
 
-pub overflow-add-n : goal.overflow-add-n
-overflow-add-n c =
+pub overflow_add-n : goal.overflow_add-n
+overflow_add-n c =
     let h = few c.loop-d.d-index (omega arith) in
-    let d = digit_bounds (get_or c.args.digits.now c.loop-d.d-index 0) c.if-not-is-digit.ensures in
+    let d = digit_bounds (get_or c.args.digits.now c.loop-d.d-index 0) c.if-not-is_digit.ensures in
     omega (arith, c.loop-d.invariant.0)
 
-pub returns-then-not-is-digit : goal.returns-then-not-is-digit
-returns-then-not-is-digit c = record {
-  value = sym (sym c.loop-d.invariant.1 ∙ digit_none c.args.digits.now c.loop-d.n c.loop-d.d-index (omega arith) (sym c.if-not-is-digit.ensures));
+pub returns-then-not-is_digit : goal.returns-then-not-is_digit
+returns-then-not-is_digit c = record {
+  value = sym (sym c.loop-d.invariant.1 ∙ digit_none c.args.digits.now c.loop-d.n c.loop-d.d-index (omega arith) (sym c.if-not-is_digit.ensures));
   small = tt;
 }
 
 pub loop-d-preserved : goal.loop-d-preserved
 loop-d-preserved c =
-    let d = digit_bounds (get_or c.args.digits.now c.loop-d.d-index 0) c.if-not-is-digit.ensures in
+    let d = digit_bounds (get_or c.args.digits.now c.loop-d.d-index 0) c.if-not-is_digit.ensures in
     let t = ten_times c.loop-d.d-index in (
       omega (arith, c.loop-d.invariant.0),
-      sym (digit_on c.args.digits.now c.loop-d.n c.loop-d.d-index (omega arith) (sym c.if-not-is-digit.ensures)) ∙ c.loop-d.invariant.1,
+      sym (digit_on c.args.digits.now c.loop-d.n c.loop-d.d-index (omega arith) (sym c.if-not-is_digit.ensures)) ∙ c.loop-d.invariant.1,
     )
 
 pub returns : goal.returns

@@ -2,8 +2,8 @@ use Rattle.std.proofs.Common.{rules}
 use Rattle.script.proofs.Turns.{valued_more, valued_none, valued_all}
 use Rattle.script.proofs.words.size.Goals as goal
 
-pub returns-in-default : goal.returns-in-default
-returns-in-default c = valued_none c.args.digits.now c.loop-d.d-index c.loop-d.value c.loop-d.invariant.1 (search rules) c.in-default.ensures.value
+pub returns-in_default : goal.returns-in_default
+returns-in_default c = valued_none c.args.digits.now c.loop-d.d-index c.loop-d.value c.loop-d.invariant.1 (search rules) c.in_default.ensures.value
 
 pub loop-d-preserved : goal.loop-d-preserved
 loop-d-preserved c =

@@ -3,13 +3,13 @@ use Rattle.writer.specs.Canonical.{body_text}
 use Rattle.writer.proofs.Fields.{length_more, no_longer_than_all, all_taken}
 use Rattle.writer.proofs.several.spelled_all.Goals as goal
 
-pub returns-in-default : goal.returns-in-default
-returns-in-default c =
+pub returns-in_default : goal.returns-in_default
+returns-in_default c =
     let i = c.loop-field.field-index in
-    omega (arith, c.in-default.ensures, length_more c.args.fields.now i (record { ref_ptr = (0, 0); now = [] }) c.loop-field-test.true, no_longer_than_all c.args.fields.now (i + 1))
+    omega (arith, c.in_default.ensures, length_more c.args.fields.now i (record { ref_ptr = (0, 0); now = [] }) c.loop-field-test.true, no_longer_than_all c.args.fields.now (i + 1))
 
-pub returns-then-n-gt-LINE-MAX : goal.returns-then-n-gt-LINE-MAX
-returns-then-n-gt-LINE-MAX c =
+pub returns-then-n-gt-LINE_MAX : goal.returns-then-n-gt-LINE_MAX
+returns-then-n-gt-LINE_MAX c =
     let i = c.loop-field.field-index in
     omega (arith, c.in-Some.ensures, length_more c.args.fields.now i (record { ref_ptr = (0, 0); now = [] }) c.loop-field-test.true, no_longer_than_all c.args.fields.now (i + 1))
 

@@ -5,18 +5,18 @@ use Rattle.line.proofs.Indices.{Answered, no_field, first_written, later_written
 use Rattle.line.proofs.message.Message.field.Goals as goal
 use Rattle.line.proofs.message.Message.field.Goals.{then-index-eq0, else-index-eq0}
 
-pub returns-in-default : goal.returns-in-default
-returns-in-default c =
-    let h = no_field c.args.self.now c.args.out.now c.args.index c.in-default.ensures in
+pub returns-in_default : goal.returns-in_default
+returns-in_default c =
+    let h = no_field c.args.self.now c.args.out.now c.args.index c.in_default.ensures in
     record { answer = h.answer; after = h.after }
 
 pub returns : goal.returns
 returns c =
     let raw = c.in-Some.raw.now in
     let here = c.in-Some.ensures in
-    let h : Answered c.args.out.now c.if-index-eq0.out c.args.index c.ok-or.result (slice_get (message_of c.args.self.now).fields c.args.index) =
+    let h : Answered c.args.out.now c.if-index-eq0.out c.args.index c.ok_or.result (slice_get (message_of c.args.self.now).fields c.args.index) =
     elim c.if-index-eq0.branch [
-      | then-index-eq0 w ↦ first_written c.args.self.now c.args.out.now c.if-index-eq0.out raw c.args.index c.if-index-eq0.written c.ok-or.result here w.if-index-eq0.true c.ok-or.ensures.value (w.written-is ∙ w.copy-to-front-written.ensures.answer) (w.out-is ∙ w.copy-to-front-written.ensures.after)
-      | else-index-eq0 w ↦ later_written c.args.self.now c.args.out.now c.if-index-eq0.out raw c.args.index c.if-index-eq0.written c.ok-or.result here w.if-index-eq0.false c.ok-or.ensures.value (w.written-is ∙ w.resolve-written.ensures.answer) (w.out-is ∙ w.resolve-written.ensures.after)
+      | then-index-eq0 w ↦ first_written c.args.self.now c.args.out.now c.if-index-eq0.out raw c.args.index c.if-index-eq0.written c.ok_or.result here w.if-index-eq0.true c.ok_or.ensures.value (w.written-is ∙ w.copy_to_front-written.ensures.answer) (w.out-is ∙ w.copy_to_front-written.ensures.after)
+      | else-index-eq0 w ↦ later_written c.args.self.now c.args.out.now c.if-index-eq0.out raw c.args.index c.if-index-eq0.written c.ok_or.result here w.if-index-eq0.false c.ok_or.ensures.value (w.written-is ∙ w.resolve-written.ensures.answer) (w.out-is ∙ w.resolve-written.ensures.after)
     ] in
     record { answer = h.answer; after = h.after }

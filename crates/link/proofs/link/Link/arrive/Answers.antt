@@ -4,8 +4,8 @@ use Rattle.link.proofs.link.Link.arrive.Goals as goal
 
 pub returns : goal.returns
 returns g c = record {
-  does = c.do-arrive.ensures;
+  does = c.do_arrive.ensures;
   life = arrive_lives (state (g.P.Port.meaning c.args.self.now.port) c.args.self.now.core)
-      (state (g.P.Port.meaning c.do-arrive.new.self.port) c.do-arrive.new.self.core)
-      c.args.bytes.now c.do-arrive.result c.do-arrive.ensures;
+      (state (g.P.Port.meaning c.do_arrive.new.self.port) c.do_arrive.new.self.core)
+      c.args.bytes.now c.do_arrive.result c.do_arrive.ensures;
 }

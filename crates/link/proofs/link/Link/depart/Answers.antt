@@ -4,8 +4,8 @@ use Rattle.link.proofs.link.Link.depart.Goals as goal
 
 pub returns : goal.returns
 returns g c = record {
-  does = c.do-depart.ensures;
+  does = c.do_depart.ensures;
   life = depart_lives (state (g.P.Port.meaning c.args.self.now.port) c.args.self.now.core)
-      (state (g.P.Port.meaning c.do-depart.new.self.port) c.do-depart.new.self.core)
-      c.args.buffer.now c.do-depart.new.buffer c.do-depart.result c.do-depart.ensures;
+      (state (g.P.Port.meaning c.do_depart.new.self.port) c.do_depart.new.self.core)
+      c.args.buffer.now c.do_depart.new.buffer c.do_depart.result c.do_depart.ensures;
 }

@@ -4,9 +4,9 @@ use Rattle.link.proofs.link.Link.submit.Goals as goal
 
 pub returns : goal.returns
 returns g c = record {
-  does = c.do-submit.ensures.does;
-  refused = c.do-submit.ensures.refused;
+  does = c.do_submit.ensures.does;
+  refused = c.do_submit.ensures.refused;
   life = submit_lives (state (g.P.Port.meaning c.args.self.now.port) c.args.self.now.core)
-      (state (g.P.Port.meaning c.do-submit.new.self.port) c.do-submit.new.self.core)
-      c.args.address.now c.args.body.now c.do-submit.result c.do-submit.ensures.does;
+      (state (g.P.Port.meaning c.do_submit.new.self.port) c.do_submit.new.self.core)
+      c.args.address.now c.args.body.now c.do_submit.result c.do_submit.ensures.does;
 }

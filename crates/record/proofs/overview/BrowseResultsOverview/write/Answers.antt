@@ -10,20 +10,20 @@ returns c =
     let w = c.args.writer.now in
     let handle = c.in-Some.handle.now in
     let title = c.in-Some-of.title.now in
-    let lines = c.last-of-lines.result.now in
-    let total = c.last-of-total.result.now in
+    let lines = c.last_of-lines.result.now in
+    let total = c.last_of-total.result.now in
     let h = text_there (within s.handle text) (part s.handle text) handle c.in-Some.ensures in
     let t = text_there (within s.title text) (part s.title text) title c.in-Some-of.ensures in
     let given = codes "BROWSE_RESULTS_OVERVIEW" ∷ handle ∷ title ∷ lines ∷ total ∷ [] in
     let fields = overview_fields (part s.handle text) (part s.title text) s.lines s.total in
     let e : given ≡ fields = overview_fields_are handle title lines total (part s.handle text) (part s.title text) s.lines s.total h.1 t.1
-    (c.last-of-lines.ensures ∙ count_digits s.lines c.five-digits-lines.result c.count-width.result c.five-digits-lines.ensures c.count-width.ensures)
-    (c.last-of-total.ensures ∙ count_digits s.total c.five-digits-total.result c.count-width-2.result c.five-digits-total.ensures c.count-width-2.ensures) in
+    (c.last_of-lines.ensures ∙ count_digits s.lines c.five_digits-lines.result c.count_width.result c.five_digits-lines.ensures c.count_width.ensures)
+    (c.last_of-total.ensures ∙ count_digits s.total c.five_digits-total.result c.count_width-2.result c.five_digits-total.ensures c.count_width-2.ensures) in
     record {
-      answer = may_write _ w.bare (wrong_texts s.handle s.title text) w.len (length w.out.now) given fields c.add-overview.ensures.answer e c.if-not-is-bare.ensures
+      answer = may_write _ w.bare (wrong_texts s.handle s.title text) w.len (length w.out.now) given fields c.add_overview.ensures.answer e c.if-not-is_bare.ensures
           (ap (λ (b : Bool). cond b None (Some 2)) t.0 ∙ ap (λ (b : Bool). cond b (cond (within s.title text) None (Some 2)) (Some 1)) h.0);
-      state = adds_same c.add-overview.result given fields w c.add-overview.new.writer e c.add-overview.ensures.state;
-      bare = c.add-overview.ensures.bare;
-      lender = c.add-overview.ensures.lender;
-      back = if_written c.add-overview.result (OverviewBack (part s.handle text) (part s.title text) s.lines s.total) (overview_back (part s.handle text) (part s.title text) s.lines s.total (omega arith) (omega arith));
+      state = adds_same c.add_overview.result given fields w c.add_overview.new.writer e c.add_overview.ensures.state;
+      bare = c.add_overview.ensures.bare;
+      lender = c.add_overview.ensures.lender;
+      back = if_written c.add_overview.result (OverviewBack (part s.handle text) (part s.title text) s.lines s.total) (overview_back (part s.handle text) (part s.title text) s.lines s.total (omega arith) (omega arith));
     }

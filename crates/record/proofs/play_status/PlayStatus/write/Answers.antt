@@ -9,9 +9,9 @@ returns c =
     let w = c.args.writer.now in
     let e = c.rows-rows.ensures in
     record {
-      answer = may_write _ w.bare (wrong_status s) w.len (length w.out.now) (row_fields c.rows-rows.result) (status_fields s) c.add_to.ensures.answer e c.if-not-is-bare.ensures c.in-default.ensures;
+      answer = may_write _ w.bare (wrong_status s) w.len (length w.out.now) (row_fields c.rows-rows.result) (status_fields s) c.add_to.ensures.answer e c.if-not-is_bare.ensures c.in_default.ensures;
       state = adds_same c.add_to.result (row_fields c.rows-rows.result) (status_fields s) w c.add_to.new.writer e c.add_to.ensures.state;
       bare = c.add_to.ensures.bare;
       lender = c.add_to.ensures.lender;
-      back = if_written c.add_to.result (StatusBack s) (status_back s c.in-default.ensures);
+      back = if_written c.add_to.result (StatusBack s) (status_back s c.in_default.ensures);
     }

@@ -12,9 +12,9 @@ returns c =
     let h = text_there (within span text) (part span text) given c.in-Some.ensures in
     let e = title_fields_are given (part span text) h.1 in
     record {
-      answer = may_write _ w.bare (wrong_title span text) w.len (length w.out.now) (codes "TITLE_NAME" ∷ given ∷ []) (title_fields (part span text)) c.add-title.ensures.answer e c.if-not-is-bare.ensures (ap (λ (t : Bool). cond t None (Some 1)) h.0);
-      state = adds_same c.add-title.result (codes "TITLE_NAME" ∷ given ∷ []) (title_fields (part span text)) w c.add-title.new.writer e c.add-title.ensures.state;
-      bare = c.add-title.ensures.bare;
-      lender = c.add-title.ensures.lender;
-      back = if_written c.add-title.result (TitleBack (part span text)) (title_back (part span text));
+      answer = may_write _ w.bare (wrong_title span text) w.len (length w.out.now) (codes "TITLE_NAME" ∷ given ∷ []) (title_fields (part span text)) c.add_title.ensures.answer e c.if-not-is_bare.ensures (ap (λ (t : Bool). cond t None (Some 1)) h.0);
+      state = adds_same c.add_title.result (codes "TITLE_NAME" ∷ given ∷ []) (title_fields (part span text)) w c.add_title.new.writer e c.add_title.ensures.state;
+      bare = c.add_title.ensures.bare;
+      lender = c.add_title.ensures.lender;
+      back = if_written c.add_title.result (TitleBack (part span text)) (title_back (part span text));
     }

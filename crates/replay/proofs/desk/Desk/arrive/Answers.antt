@@ -5,8 +5,8 @@ use Rattle.replay.specs.Desks.{too_long}
 use Rattle.replay.proofs.Parts.{arrives}
 use Rattle.replay.proofs.desk.Desk.arrive.Goals as goal
 
-pub slice-bounds-arrive-end : goal.slice-bounds-arrive-end
-slice-bounds-arrive-end g c = search (rules, some_fits)
+pub slice_bounds-arrive-end : goal.slice_bounds-arrive-end
+slice_bounds-arrive-end g c = search (rules, some_fits)
 
 pub returns-in-Some : goal.returns-in-Some
 returns-in-Some g c = arrives _ _ _ c.in-Some.n c.arrive.result c.in-Some.ensures.answer c.in-Some.ensures.after c.arrive.ensures.does

@@ -11,6 +11,6 @@ returns c =
       some = omega (arith, c.push.ensures.len);
       lies =
           subst (λ (x : List ℕ). Lies was x c.push.new.self.out.now c.push.new.self.len) (append_assoc (head_text c.args.address.now c.args.mark) c.args.first.now (58 ∷ []))
-          (c.push.ensures.lies was _ (c.push-all-3.ensures.lies was _ (c.push-all-2.ensures.lies was _ (c.push-all.ensures.lies was [] (lies_none was)))));
-      lender = c.push.ensures.lender ∙ c.push-all-3.ensures.lender ∙ c.push-all-2.ensures.lender ∙ c.push-all.ensures.lender;
+          (c.push.ensures.lies was _ (c.push_all-3.ensures.lies was _ (c.push_all-2.ensures.lies was _ (c.push_all.ensures.lies was [] (lies_none was)))));
+      lender = c.push.ensures.lender ∙ c.push_all-3.ensures.lender ∙ c.push_all-2.ensures.lender ∙ c.push_all.ensures.lender;
     }

@@ -9,9 +9,9 @@ use Rattle.writer.proofs.page.Writer.push_fields.Goals as goal
 none : Bor (List ℕ)
 none = record { ref_ptr = (0, 0); now = [] }
 
-pub push-field-requires : goal.push-field-requires
+pub push_field-requires : goal.push_field-requires
 unfolding none
-push-field-requires c =
+push_field-requires c =
     let i = c.loop-field.field-index in
     let m = length_more c.args.fields.now i none c.loop-field-test.true in
     let w = no_longer_than_all c.args.fields.now (i + 1) in
@@ -23,8 +23,8 @@ push-requires c =
     let i = c.loop-field.field-index in
     let m = length_more c.args.fields.now i none c.loop-field-test.true in
     let w = no_longer_than_all c.args.fields.now (i + 1) in
-    let n = c.push-field.ensures.len in
-    let r = c.push-field.ensures.room in
+    let n = c.push_field.ensures.len in
+    let r = c.push_field.ensures.room in
     (omega (arith, c.requires, c.loop-field.invariant.0, c.loop-field.invariant.1), omega (arith, c.requires, c.loop-field.invariant.0, c.loop-field.invariant.1))
 
 pub loop-field-preserved : goal.loop-field-preserved
@@ -33,11 +33,11 @@ loop-field-preserved c =
     let refs = c.args.fields.now in
     let i = c.loop-field.field-index in
     let h = c.loop-field-test.true in (
-      omega (arith, c.push.ensures.len, c.push-field.ensures.len, c.loop-field.invariant.0, length_more refs i none h),
-      c.push.ensures.room ∙ c.push-field.ensures.room ∙ c.loop-field.invariant.1,
-      c.push.ensures.lender ∙ c.push-field.ensures.lender ∙ c.loop-field.invariant.2,
-      all_bytes_more refs i none h c.loop-field.invariant.3 c.push-field.ensures.bytes,
-      λ was m o. subst (λ (x : List ℕ). Lies was x c.push.new.self.out.now c.push.new.self.len) (line_more refs i none h m) (c.push.ensures.lies was _ (c.push-field.ensures.lies was _ (c.loop-field.invariant.4 was m o))),
+      omega (arith, c.push.ensures.len, c.push_field.ensures.len, c.loop-field.invariant.0, length_more refs i none h),
+      c.push.ensures.room ∙ c.push_field.ensures.room ∙ c.loop-field.invariant.1,
+      c.push.ensures.lender ∙ c.push_field.ensures.lender ∙ c.loop-field.invariant.2,
+      all_bytes_more refs i none h c.loop-field.invariant.3 c.push_field.ensures.bytes,
+      λ was m o. subst (λ (x : List ℕ). Lies was x c.push.new.self.out.now c.push.new.self.len) (line_more refs i none h m) (c.push.ensures.lies was _ (c.push_field.ensures.lies was _ (c.loop-field.invariant.4 was m o))),
     )
 
 pub returns : goal.returns
