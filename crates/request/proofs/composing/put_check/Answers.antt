@@ -3,5 +3,5 @@ use Rattle.request.proofs.composing.put_check.Goals as goal
 
 pub returns : goal.returns
 returns c = λ was l o.
-    let one = c.put_at.ensures.lies was l o in
-    lies_checked was l _ _ _ c.put_at.result _ c.check_sum-check.result c.two_digits.ensures one.len c.check_sum-check.ensures one (c.put.ensures.lies was _ one)
+    let one = c.put-at.ensures.lies was l o in
+    lies_checked was l _ _ _ c.put-at.result _ c.check_sum-check.result c.two_digits.ensures one.len c.check_sum-check.ensures one (c.put.ensures.lies was _ one)
