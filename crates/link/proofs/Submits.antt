@@ -21,7 +21,7 @@ use Rattle.request.specs.declared.preparing.Prepared.{Prepared}
 use Rattle.request.proofs.Judging.{untold}
 use Rattle.link.specs.Meanings.{state}
 use Rattle.link.specs.Submitting.{Accepts, Why, unreadable, no_room, LineReady}
-use Rattle.link.specs.declared.core.Core.{Core}
+use Rattle.link.specs.declared.inner.Core.{Core}
 
 -- ---- the line
 -- a byte behind what lies at the front of a buffer

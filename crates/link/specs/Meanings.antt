@@ -20,7 +20,7 @@ use Rattle.link.specs.declared.pumped.Kind.{Kind}
 use Rattle.link.specs.declared.pumped.Kind.TheVariants.{Fault as FaultKind, Event, Notice, Stray, Misplaced, More, Last, Late, LateLast}
 use Rattle.link.specs.declared.pumped.Pumped.{Pumped}
 use Rattle.link.specs.declared.pumped.Pumped.TheVariants.{Dry, Line}
-use Rattle.link.specs.declared.core.Core.{Core}
+use Rattle.link.specs.declared.inner.Core.{Core}
 
 abbrev pub state : Meaning → Core → State
 state port core = record {

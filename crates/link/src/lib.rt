@@ -2,7 +2,7 @@
 // to the command that it answers.
 #![tactic(auto)]
 
-mod core;
+mod inner;
 mod link;
 mod pumped;
 mod telling;

@@ -6,7 +6,7 @@ ghost use Rattle.numbers.specs.Slots.{outcome_of, IfForeign};
 ghost use Rattle.link.specs.Meanings.{state as state_of, pump_entry, settle_entry, arrive_entry, depart_entry, Pumps, LivesOn, LivesOnBy, BeginsLife};
 ghost use Rattle.link.specs.Submitting.{Submitted, IfRefused, submit_entry};
 
-use crate::core::Core;
+use crate::inner::Core;
 use crate::pumped::Pumped;
 use crate::ticket::Ticket;
 use line::Fault;

@@ -1,7 +1,7 @@
 // The serial port itself: a queue of what arrived, and a queue of what is to depart.
 use crate::queue::Queue;
 
-pub mod port;
+pub mod as_port;
 
 #[derive(Drop)]
 pub struct Serial {

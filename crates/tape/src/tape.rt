@@ -1,7 +1,7 @@
 // The tape itself: a recording to play, and places to write, each of which is written once.
 ghost use Rattle.std.specs.Prelude.{◌≤◌, vec_len};
 
-pub mod port;
+pub mod as_port;
 
 #[derive(Drop)]
 pub struct Tape {

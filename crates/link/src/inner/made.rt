@@ -5,7 +5,7 @@ ghost use Rattle.reader.specs.Unfinished.{part_of};
 ghost use Rattle.life.specs.Link.{is_free};
 ghost use Rattle.numbers.specs.Ten.{slots_of};
 
-use crate::core::Core;
+use crate::inner::Core;
 use numbers::Numbers;
 use reader::Unfinished;
 

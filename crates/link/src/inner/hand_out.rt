@@ -4,7 +4,7 @@ ghost use Rattle.reader.specs.Unfinished.{part_of};
 ghost use Rattle.numbers.specs.Ten.{slots_of};
 ghost use Rattle.link.specs.Steps.{HandedOut};
 
-use crate::core::Core;
+use crate::inner::Core;
 use crate::pumped::Pumped;
 use crate::telling::kind_of;
 
