@@ -59,7 +59,7 @@ fn room(rt: HostRuntime) {
     );
     assert!(rt; matches!(command_line(&mut out, '1', b"A", b"b"), Ok(12)));
     assert!(rt; matches!(command_line(&mut out, '1', b"A", b""), Ok(11)));
-    assert!(rt; &out[0..8] == b"01/1/A::");
+    assert!(rt; &out[0..8] == b"01/1/A::".as_slice());
 }
 
 // A name of 64 characters, and one of 65; a writer with no line open.
