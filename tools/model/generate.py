@@ -864,4 +864,4 @@ def push_to_limit(rng, data):
     return first + end + padding + rest
 
 
-INPUTS = {'listen': listen_input, 'inspect': inspect_input, 'replay': replay_input}
+INPUTS = {'listen': listen_input, 'inspect': inspect_input, 'records': inspect_input, 'replay': replay_input}

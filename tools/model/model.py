@@ -563,17 +563,22 @@ INSPECT_SIDES = {b'>': 'command', b'<': 'answer'}
 INSPECT_MARKS = {b'!': 'EVENT', b'?': 'NOTICE'}
 
 
-def inspect(data):
+def inspect(data, with_records=False):
     """Tell what each line means; its first byte says which side sent it.
 
     Bytes after the last line end are not yet a line.
     """
     lines = re.split(rb'[\r\n]', data[:INPUT_LIMIT])[:-1]
-    return b''.join(inspect_line(line) for line in lines if line)
+    return b''.join(inspect_line(line, with_records) for line in lines if line)
 
 
-def inspect_line(line):
-    """The row of a line and, for a record, a further row."""
+def records(data):
+    """The same with a further row for each record, which no program tells yet."""
+    return inspect(data, with_records=True)
+
+
+def inspect_line(line, with_records):
+    """The row of a line and, if asked for, a further one for a record."""
     side = INSPECT_SIDES.get(line[:1])
     if side is None:
         return row('?')
@@ -581,7 +586,7 @@ def inspect_line(line):
     if isinstance(message, Fault):
         return row('FAULT', *message)
     rows = message_row(message)
-    if has_record(message):
+    if with_records and has_record(message):
         rows += record_row(message)
     return rows
 
@@ -714,7 +719,7 @@ def ticket_of_another_link():
     return Link(SerialPort(), 2).submit(b'01', b'PLAY:')
 
 
-PROGRAMS = {'listen': listen, 'inspect': inspect, 'replay': replay}
+PROGRAMS = {'listen': listen, 'inspect': inspect, 'records': records, 'replay': replay}
 
 
 if __name__ == '__main__':

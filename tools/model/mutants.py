@@ -3,8 +3,8 @@
     mutants.py [--count N] [--seed S]
 
 Each edit below is made alone in the model's text, in memory.  The changed
-model then runs on the same inputs as the right one, up to N for each of the
-three programs, until an output differs.  An edit that is never seen means
+model then runs on the same inputs as the right one, up to N for each of its
+programs, until an output differs.  An edit that is never seen means
 that the random inputs are too weak, and the run fails.
 """
 
@@ -311,7 +311,7 @@ def changed_model(number, old, new):
 
 
 def make_cases(count, seed):
-    """Program, seed, input and right output, the three programs in turn."""
+    """Program, seed, input and right output, the programs in turn."""
     for number, program in itertools.product(range(seed, seed + count), model.PROGRAMS):
         data = compare.make_input(program, number)
         yield program, number, data, model.PROGRAMS[program](data)
