@@ -2,10 +2,10 @@
 use Rattle.std.proofs.Common.{◌≡◌, ℕ, Bool, true, false, cond, eqb, leb, ◌⊎◌, List, [], ◌∷◌, length, get_or, take, Some, None, Option, sym, refl, ap, ◌∙◌, subst, inl, inr, arith}
 use Rattle.std.proofs.lemmas.Bool.{eq-eqb, ne_eqb, eqb-true}
 use Rattle.std.specs.Option.{option_map}
-use Rattle.line.specs.Forms.{Side, command, Address, every, hex_digit, serial_length, if_some, unless_zero, digit_pair, pair_length, device_length}
+use Rattle.line.specs.Forms.{Side, Address, every, hex_digit, serial_length, if_some, unless_zero, digit_pair, pair_length, device_length}
 use Rattle.line.specs.Lines.{Message}
-use Rattle.writer.specs.Canonical.{is_length, is_device, is_zone, is_address, formed, sendable, canonical, first_formed}
-use Rattle.life.specs.Link.{Pending, begun}
+use Rattle.writer.specs.Canonical.{is_length, is_device, is_zone, is_address, formed, sendable, canonical}
+use Rattle.life.specs.Link.{begun}
 use Rattle.life.specs.Answers.{start}
 use Rattle.numbers.specs.Browse.{is_command, is_browse}
 use Rattle.numbers.specs.Ours.{all_bytes, sendable_command, ours}

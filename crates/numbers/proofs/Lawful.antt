@@ -1,7 +1,7 @@
 -- The laws of the codec: what reads as a message is plain, and the canonical line of a command reads back.
-use Rattle.std.proofs.Common.{◌≡◌, ℕ, ◌<◌, ◌≤◌, Bool, true, false, cond, eqb, ltb, leb, ◌⊎◌, List, [], ◌∷◌, length, take, Some, None, Option, sym, refl, ap, ◌∙◌, subst, inl, inr, arith}
+use Rattle.std.proofs.Common.{◌≡◌, ℕ, ◌<◌, ◌≤◌, Bool, true, false, cond, ltb, leb, ◌⊎◌, List, [], ◌∷◌, length, take, Some, None, Option, sym, refl, ap, ◌∙◌, subst, inl, inr, arith}
 use Rattle.std.specs.List.{AllByRecursion}
-use Rattle.std.proofs.lemmas.Bool.{cases_lt, lt-ltb, le-leb, lt-leb, leb-true, ltb-true, ne_eqb}
+use Rattle.std.proofs.lemmas.Bool.{cases_lt, le-leb, lt-leb, leb-true, ltb-true, ne_eqb}
 use Rattle.escape.specs.Tokens.{tokens, first_broken, further, parts}
 use Rattle.line.specs.Forms.{Side, command, answer, visible, every}
 use Rattle.line.specs.Lines.{Message, Read, meant, faulty, first_invisible, unless_at, or_fault, parted, check_place, parts_read, reading}
@@ -9,7 +9,7 @@ use Rattle.reader.specs.Cutting.{is_end}
 use Rattle.writer.specs.Canonical.{canonical, sendable}
 use Rattle.writer.specs.Laws.{Bytes}
 use Rattle.writer.proofs.Backs.{reads_back}
-use Rattle.life.specs.Codec.{Codec, Plain, Lawful, no_ends}
+use Rattle.life.specs.Codec.{Plain, Lawful, no_ends}
 use Rattle.numbers.specs.Browse.{is_command}
 use Rattle.numbers.specs.Ours.{all_bytes, sendable_command, as_answer, ours}
 

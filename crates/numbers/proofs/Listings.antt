@@ -1,5 +1,5 @@
 -- The fields of a message, from how they stand in the line.
-use Rattle.std.proofs.Common.{◌≡◌, ℕ, ◌<◌, List, Some, None, Option, sym, refl, ap, ◌∙◌, arith}
+use Rattle.std.proofs.Common.{◌≡◌, ℕ, ◌<◌, List, Some, None, sym, refl, ◌∙◌, arith}
 use Rattle.std.specs.List.{slice_get}
 use Rattle.escape.specs.Tokens.{resolved}
 use Rattle.line.specs.Lines.{fields_of}

@@ -1,18 +1,18 @@
 -- From how one number stands to the ten, and to the relations of a link's whole life.
-use Rattle.std.proofs.Common.{◌≡◌, ℕ, zero, suc, ◌+◌, ◌-◌, ◌%◌, ◌<◌, ◌≤◌, Bool, true, false, cond, ltb, ◌⊎◌, List, [], ◌∷◌, map, length, get_or, set, Some, None, Option, sym, refl, ap, ◌∙◌, subst, inl, inr, add-one, arith, get_or-set_other, get_or-set_same}
+use Rattle.std.proofs.Common.{◌≡◌, ℕ, zero, suc, ◌+◌, ◌-◌, ◌%◌, ◌<◌, ◌≤◌, Bool, true, false, cond, ltb, ◌⊎◌, List, [], ◌∷◌, length, get_or, set, Some, None, sym, refl, ap, ◌∙◌, subst, inl, inr, add-one, arith, get_or-set_other, get_or-set_same}
 use Rattle.std.proofs.lemmas.List.{set-get_or, get_or_past, get_or_default}
 use Rattle.std.proofs.lemmas.Bool.{cases_eq, cases_lt, lt-ltb, le-ltb}
 use Rattle.line.specs.Lines.{Message, meant}
 use Rattle.life.specs.Answers.{Step, not_next, final, onward, next}
 use Rattle.life.specs.Calls.{Kind, Outcome}
-use Rattle.life.specs.Link.{Pending, Slot, is_free, is_open, is_answered, is_lost, is_given_up, Same, Put, FirstFree, after_reset, one_if_open, count_open, Waits, when_open, when_given_up, Idle, Settles, was_answered, was_lost, was_open, not_held, Told, told_unknown, told_elsewhere, told_misplaced, told_more, told_last, told_late, told_late_last}
+use Rattle.life.specs.Link.{Pending, Slot, is_free, is_open, is_answered, is_lost, is_given_up, Same, Put, FirstFree, after_reset, one_if_open, count_open, when_open, when_given_up, Settles, was_answered, was_lost, was_open, not_held, Told, told_unknown, told_elsewhere, told_misplaced, told_more, told_last, told_late, told_late_last}
 use Rattle.numbers.specs.Ours.{ours}
 use Rattle.numbers.specs.declared.slot.Slot.{Slot as Held}
 use Rattle.numbers.specs.declared.slot.Outcome.{Outcome as Answer}
 use Rattle.numbers.specs.declared.slot.Outcome.TheVariants.{Answered, GivenUp, Lost, Foreign}
 use Rattle.numbers.specs.declared.ten.Numbers.{Numbers}
 use Rattle.numbers.specs.declared.slot.Slot.TheVariants.{Free}
-use Rattle.numbers.specs.Slots.{slot_of, IfForeign, is_free_slot, settles, tells, tells_pending, tells_open, tells_late}
+use Rattle.numbers.specs.Slots.{slot_of, IfForeign, is_free_slot, settles, tells, tells_open, tells_late}
 
 -- a number that stands as before
 put_same : (b a : ℕ → Slot) (n : ℕ) → Put b n (b n) a → Same b a

@@ -1,5 +1,5 @@
 -- What the values of the code mean, in the words of a link's whole life: every case of each enum.
-use Rattle.std.specs.Prelude.{ℕ, Bool, true, false, cond, List}
+use Rattle.std.specs.Prelude.{ℕ, true}
 use Rattle.line.specs.Lines.{Message}
 use Rattle.life.specs.Answers.{start, within, not_next, final, onward, next}
 use Rattle.life.specs.Answers.{Place as Placed, Step as Stepped}

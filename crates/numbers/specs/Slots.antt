@@ -1,5 +1,5 @@
 -- How one number stands, and what each call makes of it.
-use Rattle.std.specs.Prelude.{ℕ, Bool, true, false, cond, Some, None, Option}
+use Rattle.std.specs.Prelude.{ℕ, Bool, true, false, cond, List, Some, None, codes, Option}
 use Rattle.std.specs.Option.{option_map}
 use Rattle.line.specs.Lines.{Message}
 use Rattle.life.specs.Answers.{start, not_next, final, onward, next}
@@ -99,3 +99,10 @@ tells n (is_open p) m = tells_open n p (tells_pending p m)
 tells n is_answered m = (stray, is_answered)
 tells n is_lost m = (stray, is_lost)
 tells n (is_given_up p) m = tells_late n p (tells_pending p m)
+
+-- what is shown of an outcome
+abbrev pub outcome_name : Outcome → List ℕ
+outcome_name AnsweredOutcome = codes "ANSWERED"
+outcome_name GivenUpOutcome = codes "GIVEN UP"
+outcome_name LostOutcome = codes "LOST"
+outcome_name Foreign = codes "FOREIGN"

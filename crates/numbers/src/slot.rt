@@ -1,14 +1,15 @@
 // One of the ten numbers: how it stands, and what each call makes of it.
-ghost use Rattle.std.specs.Prelude.{◌≡◌, ℕ};
+ghost use Rattle.std.specs.Prelude.{◌≡◌, ℕ, Some};
 ghost use Rattle.std.specs.Option.{option_map};
 ghost use Rattle.line.specs.Meanings.{message_of, placed};
 ghost use Rattle.life.specs.Link.{is_open, is_given_up, advanced, after_reset, one_if_open};
-ghost use Rattle.numbers.specs.Slots.{begins, slot_of, pending_of, outcome_of, IfForeign, kind_of, settles, tells, tells_pending, stepped, is_free_slot};
+ghost use Rattle.numbers.specs.Slots.{begins, slot_of, pending_of, outcome_of, outcome_name, IfForeign, kind_of, settles, tells, tells_pending, stepped, is_free_slot};
 ghost use Rattle.numbers.specs.Meanings.{place_of};
 
 use crate::address::{CommandAddress, kept_address, same_address};
 use crate::listing::{Place, Step, is_browse, next_step};
 use line::{Address, Message};
+use std::fmt;
 
 // A command whose answer is not finished.
 #[derive(Clone, Copy)]
@@ -34,6 +35,19 @@ pub enum Outcome {
     GivenUp,
     Lost,
     Foreign,
+}
+
+impl fmt::Display for Outcome {
+    ghost output = { λ outcome. Some (outcome_name outcome) };
+
+    fn fmt<W: fmt::Write>(&self, f: &mut fmt::Formatter<W>) -> fmt::Result {
+        match self {
+            Outcome::Answered => f.write_str("ANSWERED"),
+            Outcome::GivenUp => f.write_str("GIVEN UP"),
+            Outcome::Lost => f.write_str("LOST"),
+            Outcome::Foreign => f.write_str("FOREIGN"),
+        }
+    }
 }
 
 // What is told of an answer line with a number.

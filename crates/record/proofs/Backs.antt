@@ -1,16 +1,16 @@
 -- What is written of a record is read back.
-use Rattle.std.proofs.Common.{◌≡◌, ℕ, zero, suc, ◌+◌, ◌-◌, ◌*◌, ◌/◌, ◌%◌, ◌^◌, ◌<◌, ◌≤◌, Bool, true, false, cond, eqb, leb, List, [], ◌∷◌, ◌++◌, length, Some, None, Ok, Err, codes, Option, Result, sym, refl, ap, ◌∙◌, subst, mod-lt, mod-eq_of_lt, mul_assoc, add-mul, arith, pow-add}
+use Rattle.std.proofs.Common.{◌≡◌, ℕ, zero, suc, ◌+◌, ◌-◌, ◌*◌, ◌/◌, ◌%◌, ◌^◌, ◌<◌, ◌≤◌, Bool, true, false, cond, leb, List, [], ◌∷◌, ◌++◌, length, Some, None, Ok, Err, codes, Option, Result, refl, ap, ◌∙◌, subst, mod-lt, mod-eq_of_lt, mul_assoc, add-mul, arith, pow-add}
 use native.Mathlib.Nat.{pow-le-pow_right}
 use lib.Arith.{mod-mul}
-use Rattle.std.proofs.lemmas.Bool.{le-leb, leb-true, leb-false, eq-eqb}
+use Rattle.std.proofs.lemmas.Bool.{le-leb, leb-true, eq-eqb}
 use Rattle.escape.specs.Tokens.{digit}
 use Rattle.line.specs.Forms.{answer}
 use Rattle.line.specs.Lines.{Message}
 use Rattle.line.specs.declared.fault.Fault.{Fault}
-use Rattle.writer.specs.Writing.{begun, with_fields, is_answer, all_fault}
+use Rattle.writer.specs.Writing.{begun, with_fields, all_fault}
 use Rattle.writer.specs.declared.page.Writer.{Writer}
-use Rattle.record.specs.Records.{same_bytes, is_kind, field_of, else_wrong, mode_numbered, mode_of, number_in, count_in, mode_in, speed_in, texts, is_overview, play_status, title_name, overview}
-use Rattle.record.specs.Writes.{mode_number, status_fields, last_of, row_fields, title_fields, overview_fields, wrong_status, unless_wrong, write_fault, Adds, Alone, StatusBack, TitleRead, TitleBack, OverviewRead, OverviewBack}
+use Rattle.record.specs.Records.{same_bytes, is_kind, field_of, else_wrong, mode_numbered, mode_of, number_in, count_in, mode_in, speed_in, texts, is_overview, play_status, overview}
+use Rattle.record.specs.Writes.{mode_number, status_fields, last_of, row_fields, title_fields, overview_fields, wrong_status, write_fault, Adds, Alone, StatusBack, TitleRead, TitleBack, OverviewRead, OverviewBack}
 use Rattle.record.specs.declared.mode.PlayMode.{PlayMode}
 use Rattle.record.specs.declared.mode.PlayMode.TheVariants.{NothingPlaying, Paused, Playing, ForwardScan, ReverseScan}
 use Rattle.record.specs.declared.play_status.PlayStatus.{PlayStatus}

@@ -3,3 +3,6 @@ pub mod Numbers
 pub mod Records
 pub mod Reads
 pub mod Writes
+pub mod Spans
+pub mod Laws
+pub mod Shown

@@ -3,6 +3,7 @@
 
 mod digits;
 mod fields;
+mod laws;
 mod mode;
 mod number;
 mod overview;
@@ -11,6 +12,7 @@ mod play_status_write;
 mod span;
 mod title_name;
 
+pub use laws::records_read_back;
 pub use mode::PlayMode;
 pub use overview::BrowseResultsOverview;
 pub use play_status::PlayStatus;

@@ -1,7 +1,8 @@
 // The play mode of a player: a digit, of which some have no meaning.
-ghost use Rattle.std.specs.Prelude.{◌≡◌};
+ghost use Rattle.std.specs.Prelude.{◌≡◌, Some};
 ghost use Rattle.record.specs.Records.{mode_numbered};
 ghost use Rattle.record.specs.Writes.{mode_number};
+ghost use Rattle.record.specs.Shown.{mode_name};
 
 use std::fmt;
 
@@ -42,14 +43,22 @@ impl PlayMode {
     }
 }
 
+fn name(mode: PlayMode) -> &'static str
+    ensures { result.now ≡ mode_name mode }
+{
+    match mode {
+        PlayMode::NothingPlaying => "nothing playing",
+        PlayMode::Paused => "paused",
+        PlayMode::Playing => "playing",
+        PlayMode::ForwardScan => "scanning forward",
+        PlayMode::ReverseScan => "scanning back",
+    }
+}
+
 impl fmt::Display for PlayMode {
+    ghost output = { λ mode. Some (mode_name mode) };
+
     fn fmt<W: fmt::Write>(&self, f: &mut fmt::Formatter<W>) -> fmt::Result {
-        match self {
-            PlayMode::NothingPlaying => write!(f, "nothing playing"),
-            PlayMode::Paused => write!(f, "paused"),
-            PlayMode::Playing => write!(f, "playing"),
-            PlayMode::ForwardScan => write!(f, "scanning forward"),
-            PlayMode::ReverseScan => write!(f, "scanning back"),
-        }
+        f.write_str(name(*self))
     }
 }

@@ -1,8 +1,10 @@
 // BROWSE_RESULTS_OVERVIEW: what the player found at a handle: its title, the lines in the window, and the lines in all.
-ghost use Rattle.std.specs.Prelude.{◌≡◌, ◌+◌, false, [], ◌∷◌, length, Ok, Err, nat_le};
+ghost use Rattle.std.specs.Prelude.{◌≡◌, ◌+◌, false, [], ◌∷◌, length, IfOk, Some, Ok, Err, nat_le};
 ghost use Rattle.line.specs.Meanings.{message_of};
-ghost use Rattle.record.specs.Records.{texts, is_overview, overview, if_read};
+ghost use Rattle.record.specs.Records.{field_of, texts, is_overview, overview, if_read};
 ghost use Rattle.record.specs.Reads.{Put};
+ghost use Rattle.record.specs.Shown.{overview_text};
+ghost use Rattle.record.specs.Spans.{Lies};
 ghost use Rattle.record.specs.Writes.{overview_fields, part, wrong_texts, write_fault, Adds, OverviewBack};
 ghost use Rattle.writer.specs.Writing.{refusal, all_fault};
 
@@ -55,6 +57,7 @@ impl BrowseResultsOverview {
     pub fn read(message: &Message, out: &mut [u8]) -> Result<BrowseResultsOverview, Fault>
         ensures answer { result ≡ overview (message_of message.now) (length out.old) }
         ensures after { out.new ≡ if_read result (texts (message_of message.now)) out.old }
+        ensures lies { IfOk result (λ o. Lies o.handle (field_of (message_of message.now) 1) out.new × Lies o.title (field_of (message_of message.now) 2) out.new) }
     {
         if !is_overview(message) {
             return Err(Fault::RecordForm(0));
@@ -125,6 +128,8 @@ fn add_overview<'a>(
 
 // How much of what was found is in the window; handle and title are in the caller's buffer.
 impl fmt::Display for BrowseResultsOverview {
+    ghost output = { λ overview. Some (overview_text overview) };
+
     fn fmt<W: fmt::Write>(&self, f: &mut fmt::Formatter<W>) -> fmt::Result {
         let lines = self.lines;
         let total = self.total;

@@ -1,8 +1,11 @@
 // PLAY_STATUS: what the player plays, how, and where it is in title and chapter. Lengths and locations are in seconds.
-ghost use Rattle.std.specs.Prelude.{◌≡◌, Some};
+ghost use Rattle.std.specs.Prelude.{◌≡◌, IfOk, Some, None};
 ghost use Rattle.line.specs.Meanings.{message_of};
 ghost use Rattle.record.specs.Numbers.{at_most};
 ghost use Rattle.record.specs.Records.{mode_in, speed_in, play_status};
+ghost use Rattle.record.specs.Reads.{Below, ReadBelow};
+ghost use Rattle.record.specs.Writes.{wrong_status};
+ghost use Rattle.record.specs.Shown.{position_text, status_text};
 
 use crate::fields::{field_at, is_kind, number_at};
 use crate::mode::PlayMode;
@@ -27,7 +30,8 @@ pub struct PlayStatus {
 
 // A speed is no higher than the highest.
 fn speed_of(n: u32) -> Option<u8>
-    ensures { result ≡ at_most 3 (Some n) }
+    ensures value { result ≡ at_most 3 (Some n) }
+    ensures small { Below 4 result }
 {
     if n <= SPEED_MAX { Some(n as u8) } else { None }
 }
@@ -42,7 +46,8 @@ fn mode_in(message: &Message) -> Result<PlayMode, Fault>
 }
 
 fn speed_in(message: &Message) -> Result<u8, Fault>
-    ensures { result ≡ speed_in (message_of message.now) }
+    ensures value { result ≡ speed_in (message_of message.now) }
+    ensures small { ReadBelow 4 result }
 {
     match numeral(field_at(message, 2), 1) {
         Some(n) => speed_of(n).ok_or(Fault::RecordForm(2)),
@@ -53,7 +58,8 @@ fn speed_in(message: &Message) -> Result<u8, Fault>
 impl PlayStatus {
     // The play status that a message tells.
     pub fn read(message: &Message) -> Result<PlayStatus, Fault>
-        ensures { result ≡ play_status (message_of message.now) }
+        ensures told { result ≡ play_status (message_of message.now) }
+        ensures fits { IfOk result (λ s. wrong_status s ≡ None) }
     {
         if !is_kind(message, b"PLAY_STATUS", 8) {
             return Err(Fault::RecordForm(0));
@@ -79,21 +85,47 @@ impl PlayStatus {
     }
 }
 
+// Which title or chapter, where in it, and how long it is, in seconds.
+#[derive(Clone, Copy)]
+struct Position {
+    number: u32,
+    location: u32,
+    length: u32,
+}
+
+impl fmt::Display for Position {
+    ghost output = { λ p. Some (position_text p.number p.location p.length) };
+
+    fn fmt<W: fmt::Write>(&self, f: &mut fmt::Formatter<W>) -> fmt::Result {
+        let Position {
+            number,
+            location,
+            length,
+        } = *self;
+        write!(f, "{number} at {location} of {length} s")
+    }
+}
+
 // Mode and speed, then where in title and chapter the player is, in seconds.
 impl fmt::Display for PlayStatus {
+    ghost output = { λ status. Some (status_text status) };
+
     fn fmt<W: fmt::Write>(&self, f: &mut fmt::Formatter<W>) -> fmt::Result {
         let mode = self.mode;
         let speed = self.speed;
-        let title = self.title_number;
-        let at = self.title_location;
-        let of = self.title_length;
+        let title = Position {
+            number: self.title_number as u32,
+            location: self.title_location,
+            length: self.title_length,
+        };
+        let chapter = Position {
+            number: self.chapter_number as u32,
+            location: self.chapter_location,
+            length: self.chapter_length,
+        };
         write!(
             f,
-            "{mode} at speed {speed}, title {title} at {at} of {of} s"
-        )?;
-        let chapter = self.chapter_number;
-        let at = self.chapter_location;
-        let of = self.chapter_length;
-        write!(f, ", chapter {chapter} at {at} of {of} s")
+            "{mode} at speed {speed}, title {title}, chapter {chapter}"
+        )
     }
 }

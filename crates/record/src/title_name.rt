@@ -1,8 +1,9 @@
 // TITLE_NAME: the title of what plays.
-ghost use Rattle.std.specs.Prelude.{◌≡◌, false, [], ◌∷◌, length, Ok, Err};
+ghost use Rattle.std.specs.Prelude.{◌≡◌, false, [], ◌∷◌, length, IfOk, Ok, Err};
 ghost use Rattle.line.specs.Meanings.{message_of};
 ghost use Rattle.writer.specs.Writing.{refusal, all_fault};
 ghost use Rattle.record.specs.Records.{field_of, title_name, if_read};
+ghost use Rattle.record.specs.Spans.{Lies};
 ghost use Rattle.record.specs.Writes.{title_fields, part, wrong_title, write_fault, Adds, TitleBack};
 
 use crate::fields::{field_at, is_kind};
@@ -21,6 +22,7 @@ impl TitleName {
     pub fn read(message: &Message, out: &mut [u8]) -> Result<TitleName, Fault>
         ensures answer { result ≡ title_name (message_of message.now) (length out.old) }
         ensures after { out.new ≡ if_read result (field_of (message_of message.now) 1) out.old }
+        ensures lies { IfOk result (λ t. Lies t.title (field_of (message_of message.now) 1) out.new) }
     {
         if !is_kind(message, b"TITLE_NAME", 1) {
             return Err(Fault::RecordForm(0));

@@ -1,8 +1,12 @@
 -- Worked lines: what each is read as, by the same definitions that the contracts of the code cite.
-use Rattle.std.specs.Prelude.{◌≡◌, ℕ, true, List, [], ◌∷◌, map, Some, None, codes, Option}
+use Rattle.std.specs.Prelude.{◌≡◌, ℕ, true, List, [], ◌∷◌, map, length, Some, None, Ok, Err, codes, Result}
 use Rattle.line.specs.Forms.{Side, command, answer}
 use Rattle.line.specs.Lines.{Read, meant, faulty, reading}
+use Rattle.line.specs.declared.fault.Fault.{Fault}
+use Rattle.line.specs.declared.fault.Fault.TheVariants.{RecordForm}
 use Rattle.writer.specs.Canonical.{canonical}
+use Rattle.record.specs.Records.{field_of, title_name}
+use Rattle.record.specs.declared.title_name.TitleName.{TitleName}
 use Rattle.life.specs.Answers.{start}
 use Rattle.life.specs.Calls.{Kind, fault, more, last}
 use Rattle.life.specs.Link.{Slot, is_open}
@@ -62,9 +66,23 @@ listing =
     ∷ codes "01.01/3/000:BROWSE_RESULT:2:5:Beta:/89"
     ∷ []
 
--- each line is read as it should be, has the canonical line that it should have, and is told as it should be
+-- ---- records
+-- the record of a title in what a line is read as, with a buffer of 1,024 bytes, and the text that then stands at its front
+abbrev pub title_of : Read → Result TitleName Fault × List ℕ
+title_of (meant m) = (title_name m 1024, field_of m 1)
+title_of (faulty number place) = (Err (RecordForm 0), [])
+
+abbrev pub titles_read : List (List ℕ × List ℕ)
+titles_read = (codes "01/!/000:TITLE_NAME:A\\:B:/40", codes "A:B") ∷ []
+
+-- the title is all that stands at the buffer's front
+abbrev pub titled : List ℕ → Result TitleName Fault × List ℕ
+titled text = (Ok (record { title = record { start = 0; end = length text } }), text)
+
+-- each line is read as it should be, has the canonical line that it should have, is told as it should be, and has the title that it should have
 abbrev pub Worked : Type 0
 Worked =
     (map (λ (e : Example). reading e.side e.line) lines_read ≡ map (λ (e : Example). e.is) lines_read)
     × (map (λ (e : List ℕ × List ℕ). canonical_of (reading command e.0)) lines_written ≡ map (λ (e : List ℕ × List ℕ). e.1) lines_written)
     × (told_of open_browse listing ≡ more 3 ∷ more 3 ∷ last 3 ∷ [])
+    × (map (λ (e : List ℕ × List ℕ). title_of (reading answer e.0)) titles_read ≡ map (λ (e : List ℕ × List ℕ). titled e.1) titles_read)

@@ -1,4 +1,4 @@
-use Rattle.std.proofs.Common.{◌≡◌, ℕ, List, ap, ◌∙◌}
+use Rattle.std.proofs.Common.{ap, ◌∙◌}
 use Rattle.escape.specs.Tokens.{resolved}
 use Rattle.numbers.specs.Browse.{number}
 use Rattle.numbers.proofs.Texts.{fits_some, fits_none}

@@ -1,9 +1,9 @@
-use Rattle.std.proofs.Common.{◌≡◌, ◌-◌, ◌≤◌, true, get_or, sym, ap, ◌∙◌, arith, rules}
+use Rattle.std.proofs.Common.{◌≡◌, ◌-◌, ◌≤◌, true, get_or, sym, ◌∙◌, arith, rules}
 use Rattle.std.proofs.lemmas.Bool.{le-leb, lt-leb}
 use Rattle.escape.specs.Tokens.{digit}
 use Rattle.line.specs.Forms.{every}
 use Rattle.line.proofs.Loops.{every_more, every_stop, every_all}
-use Rattle.numbers.specs.Browse.{value_after, at_most}
+use Rattle.numbers.specs.Browse.{value_after}
 use Rattle.numbers.proofs.Numerals.{value_more, value_all, ten_more, ten_most, number_is, no_digits, digit_most}
 use Rattle.numbers.proofs.numeral.plain_number.Goals as goal
 

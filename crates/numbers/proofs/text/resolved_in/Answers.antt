@@ -1,4 +1,4 @@
-use Rattle.std.proofs.Common.{◌≡◌, ◌≤◌, length, sym, ◌∙◌, arith, rules}
+use Rattle.std.proofs.Common.{length, rules}
 use Rattle.escape.specs.Tokens.{resolved}
 use Rattle.numbers.proofs.Texts.{some_fits, fitted, not_fitted}
 use Rattle.numbers.proofs.text.resolved_in.Goals as goal

@@ -1,4 +1,4 @@
-use Rattle.std.proofs.Common.{ℕ, ◌+◌, ◌/◌, ◌%◌, List, [], ◌∷◌, sym, ap, div-one}
+use Rattle.std.proofs.Common.{ℕ, ◌+◌, ◌/◌, ◌%◌, [], ◌∷◌, sym, ap, div-one}
 use Rattle.record.specs.Numbers.{in_digits}
 use Rattle.record.proofs.digits.five_digits.Goals as goal
 

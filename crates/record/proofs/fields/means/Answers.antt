@@ -1,4 +1,4 @@
-use Rattle.std.proofs.Common.{◌≡◌, ℕ, List, length, replicate, ap, ◌∙◌, arith}
+use Rattle.std.proofs.Common.{ℕ, List, replicate, ap, ◌∙◌, arith}
 use Rattle.escape.specs.Tokens.{resolved}
 use Rattle.record.specs.Records.{same_bytes}
 use Rattle.record.proofs.Numerals.{front, too_many}

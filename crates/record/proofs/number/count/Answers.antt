@@ -1,4 +1,4 @@
-use Rattle.std.proofs.Common.{◌≡◌, replicate, ap, ◌∙◌, arith}
+use Rattle.std.proofs.Common.{replicate, ap, ◌∙◌, arith}
 use Rattle.escape.specs.Tokens.{resolved}
 use Rattle.record.specs.Numbers.{counted}
 use Rattle.record.proofs.Numerals.{front, too_many, no_count}

@@ -1,9 +1,8 @@
-use Rattle.std.proofs.Common.{◌≡◌, ℕ, ◌+◌, ◌≤◌, Bool, leb, List, length, sym, refl, ap, ◌∙◌, arith}
+use Rattle.std.proofs.Common.{ℕ, ◌+◌, ◌≤◌, leb, List, length, sym, refl, ap, ◌∙◌, arith}
 use Rattle.std.proofs.lemmas.Bool.{leb-true}
 use Rattle.escape.specs.Tokens.{resolved}
 use Rattle.escape.specs.Resolving.{written}
 use Rattle.line.specs.Meanings.{message_of}
-use Rattle.record.specs.Records.{texts}
 use Rattle.record.proofs.Texts.{put_both, texts_length, texts_are}
 use Rattle.record.proofs.overview.put_texts.Goals as goal
 

@@ -1,4 +1,4 @@
-use Rattle.std.proofs.Common.{refl, arith, rules}
+use Rattle.std.proofs.Common.{refl, rules}
 use Rattle.numbers.specs.Ten.{slots_of}
 use Rattle.numbers.proofs.Standing.{reset_none, reset_more, reset_ended}
 use Rattle.numbers.proofs.ten.Numbers.reset.Goals as goal

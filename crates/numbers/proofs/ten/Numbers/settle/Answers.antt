@@ -1,5 +1,5 @@
-use Rattle.std.proofs.Common.{◌⊎◌, sym, refl, ◌∙◌, arith, rules}
-use Rattle.life.specs.Link.{HeldSlot, not_held}
+use Rattle.std.proofs.Common.{refl, rules}
+use Rattle.life.specs.Link.{not_held}
 use Rattle.numbers.specs.Ten.{slots_of}
 use Rattle.numbers.proofs.Standing.{past_free, settled_at, foreign_kept}
 use Rattle.numbers.proofs.ten.Numbers.settle.Goals as goal

@@ -1,8 +1,5 @@
-use Rattle.std.proofs.Common.{List, sym, refl, ap, arith, rules}
+use Rattle.std.proofs.Common.{refl, arith, rules}
 use Rattle.line.specs.Meanings.{message_of}
-use Rattle.life.specs.Calls.{Kind, stray}
-use Rattle.life.specs.Link.{Slot}
-use Rattle.numbers.specs.Slots.{tells}
 use Rattle.numbers.specs.Ten.{slots_of}
 use Rattle.numbers.proofs.Standing.{past_free, told_put, told_kind, told_at}
 use Rattle.numbers.proofs.ten.Numbers.told.Goals as goal
