@@ -1,9 +1,9 @@
 -- The theorem on a link's whole life, in the form in which the contract of each call cites it.
-use Rattle.std.proofs.Common.{ℕ, Bool, List, [], ◌∷◌, Ok, Err, Result, sym, subst}
+use Rattle.std.proofs.Common.{ℕ, Bool, List, [], Ok, Err, Result, sym, subst}
 use Rattle.line.specs.Lines.{Read}
 use Rattle.line.specs.declared.fault.Fault.{Fault}
 use Rattle.life.specs.Calls.{Call, History, quiet, reset, submitted}
-use Rattle.life.specs.Link.{State, New, Does, Leads, making, Arrives, Departs, Clears, Settled, Resets, did_refuse, did_submit, did_dry, did_hand, did_settle, did_reset, did_arrive, did_depart, did_clear}
+use Rattle.life.specs.Link.{State, New, Does, making, Arrives, Departs, Clears, Settled, Resets, did_refuse, did_submit, did_dry, did_hand, did_settle, did_reset, did_arrive, did_depart, did_clear}
 use Rattle.life.proofs.Kept.{kept}
 use Rattle.life.proofs.Kept.{lives_on as goes_on}
 use Rattle.numbers.specs.Ours.{ours}

@@ -1,5 +1,5 @@
 -- What pump does with a line that has ended, from what its parts do.
-use Rattle.std.proofs.Common.{◌≡◌, ℕ, ◌≤◌, true, List, ◌++◌, length, take, drop, Ok, sym, ap, ◌∙◌}
+use Rattle.std.proofs.Common.{◌≡◌, ℕ, ◌≤◌, true, List, length, take, drop, Ok, sym, ap, ◌∙◌}
 use Rattle.std.proofs.lemmas.List.{take_at}
 use Rattle.reader.specs.Cutting.{Part}
 use Rattle.reader.specs.Unfinished.{Comes}

@@ -1,16 +1,15 @@
 -- A submit, step by step: its line, the reasons to refuse it, and what an accepted one does.
-use Rattle.std.proofs.Common.{◌≡◌, ℕ, ◌+◌, ◌-◌, ◌%◌, ◌<◌, ◌≤◌, min, Bool, true, false, cond, leb, List, [], ◌∷◌, ◌++◌, length, take, drop, set, Ok, Err, Result, sym, refl, ap, ◌∙◌, subst, arith, length-append, length-drop, rules, le-leb}
+use Rattle.std.proofs.Common.{◌≡◌, ℕ, ◌+◌, ◌-◌, ◌%◌, ◌<◌, ◌≤◌, min, true, List, [], ◌∷◌, ◌++◌, length, take, drop, set, Ok, Err, sym, ap, ◌∙◌, subst, arith, length-append, length-drop, le-leb}
 use Rattle.std.proofs.lemmas.List.{take_more_set, take_at, length_push}
 use Rattle.escape.specs.Tokens.{digit}
-use Rattle.line.specs.Lines.{Message, Read, meant, faulty}
+use Rattle.line.specs.Lines.{Read}
 use Rattle.line.specs.Meanings.{told}
 use Rattle.line.specs.declared.fault.Fault.{Fault}
-use Rattle.line.specs.declared.fault.Fault.TheVariants.{NoNumber, NoRoom}
+use Rattle.line.specs.declared.fault.Fault.TheVariants.{NoRoom}
 use Rattle.port.specs.Port.{Meaning, Written}
 use Rattle.writer.specs.Canonical.{canonical}
-use Rattle.life.specs.Link.{State, is_free, is_open, FirstFree, Put, Submits, begun, ended_line}
+use Rattle.life.specs.Link.{State, is_open, FirstFree, Put, ended_line}
 use Rattle.reader.specs.Unfinished.{part_of}
-use Rattle.reader.specs.declared.unfinished.Unfinished.{Unfinished}
 use Rattle.numbers.specs.Ours.{ours}
 use Rattle.numbers.specs.Slots.{pending_of}
 use Rattle.numbers.specs.Ten.{slots_of}

@@ -2,3 +2,4 @@
 pub mod Meanings
 pub mod Steps
 pub mod Submitting
+pub mod Shown

@@ -11,7 +11,7 @@ use Rattle.numbers.specs.Ours.{as_answer, ours}
 use Rattle.numbers.specs.Slots.{outcome_of}
 use Rattle.numbers.specs.Ten.{slots_of}
 use Rattle.numbers.specs.declared.slot.Outcome.{Outcome}
-use Rattle.life.specs.Calls.{fault, event, notice, stray, misplaced, more, last, late, late_last, Call, quiet, dry, handed, settled, reset, arrived, departed, History}
+use Rattle.life.specs.Calls.{fault, event, notice, stray, misplaced, more, last, late, late_last, Call, quiet, dry, handed, settled, arrived, departed, History}
 use Rattle.life.specs.Calls.{Kind as Told-kind}
 use Rattle.life.specs.Promises.{times, out}
 use Rattle.life.specs.Link.{State, Dries, Hands, Leads}

@@ -1,5 +1,5 @@
 -- What submit answers and does.
-use Rattle.std.specs.Prelude.{◌≡◌, ℕ, ◌+◌, ◌<◌, ◌≤◌, true, List, [], ◌∷◌, ◌++◌, length, take, None, Ok, Err, Result, ◌≢◌}
+use Rattle.std.specs.Prelude.{◌≡◌, ℕ, ◌+◌, ◌<◌, ◌≤◌, true, List, [], length, take, None, Ok, Err, Result, ◌≢◌}
 use Rattle.escape.specs.Tokens.{digit}
 use Rattle.line.specs.Forms.{command}
 use Rattle.line.specs.Lines.{Message, Read, meant, faulty}

@@ -1,5 +1,9 @@
 // What pump answers.
+ghost use Rattle.std.specs.Prelude.{Some};
+ghost use Rattle.link.specs.Shown.{pumped_text};
+
 use line::Fault;
+use std::fmt;
 
 // What a line is to the link. The last four have the number of the command that the line answers.
 #[derive(Clone, Copy)]
@@ -28,4 +32,30 @@ pub enum Pumped {
     Dry,
     // the line, without its end, stands at the buffer's front
     Line { kind: Kind, length: usize },
+}
+
+// The kind in capitals and the length; a fault has its number and place before the length, and a line of an answer its number behind it.
+impl fmt::Display for Pumped {
+    ghost output = { λ pumped. Some (pumped_text pumped) };
+
+    fn fmt<W: fmt::Write>(&self, f: &mut fmt::Formatter<W>) -> fmt::Result {
+        let Pumped::Line { kind, length } = self else {
+            return f.write_str("DRY");
+        };
+        match kind {
+            Kind::Fault(fault) => {
+                let number = fault.number();
+                let place = fault.place().unwrap_or(0);
+                write!(f, "FAULT {number} {place} {length}")
+            }
+            Kind::Event => write!(f, "EVENT {length}"),
+            Kind::Notice => write!(f, "NOTICE {length}"),
+            Kind::Stray => write!(f, "STRAY {length}"),
+            Kind::Misplaced => write!(f, "MISPLACED {length}"),
+            Kind::More(n) => write!(f, "MORE {length} {n}"),
+            Kind::Last(n) => write!(f, "LAST {length} {n}"),
+            Kind::Late(n) => write!(f, "LATE {length} {n}"),
+            Kind::LateLast(n) => write!(f, "LATE LAST {length} {n}"),
+        }
+    }
 }

@@ -1,0 +1,2 @@
+-- What is shown of values, as bytes.
+pub mod Shown
