@@ -1,7 +1,7 @@
 -- Induction over a list of bytes by its tokens, and what follows from it at once.
-use Rattle.std.proofs.Common.{◌≡◌, ℕ, Bool, true, false, eqb, List, [], ◌∷◌, ◌++◌, Some, None, Option, sym, refl, ap, ◌∙◌, subst, append-nil, arith, eqb-true}
+use Rattle.std.proofs.Common.{◌≡◌, ℕ, Bool, true, false, eqb, List, [], ◌∷◌, ◌++◌, Some, None, Option, sym, refl, ap, ◌∙◌, subst, append-nil, eqb-true}
 use borrow.Author.Tests.{eqb-false}
-use Rattle.escape.specs.Tokens.{Token, plain, escape, broken, tokens, escaping, short, numbered, text}
+use Rattle.escape.specs.Tokens.{escape, broken, tokens, escaping, short, numbered, text}
 use Rattle.escape.proofs.Opening.{tokens_plain, after_short, not_d}
 
 -- the bytes after a backslash that make an escape for the byte

@@ -1,9 +1,8 @@
 -- A chunk of a line: bytes that are whole tokens, none of them broken and none the plain byte `c`, whatever follows.
-use Rattle.std.proofs.Common.{◌≡◌, ℕ, ◌+◌, ◌-◌, ◌*◌, ◌/◌, ◌%◌, ◌<◌, ◌≤◌, Bool, true, false, cond, eqb, leb, ◌⊎◌, List, [], ◌∷◌, ◌++◌, length, Some, None, Option, sym, refl, ap, ◌∙◌, subst, inl, inr, append_assoc, append-nil, arith, eq-eqb, ne_eqb, eqb-true, le-leb}
-use borrow.Author.Tests.{lt-leb, eqb-false}
-use Rattle.std.proofs.lemmas.Bool.{leb-true, leb-false}
+use Rattle.std.proofs.Common.{◌≡◌, ℕ, ◌+◌, ◌/◌, ◌%◌, ◌<◌, ◌≤◌, Bool, true, false, cond, eqb, leb, List, [], ◌∷◌, ◌++◌, length, Some, None, Option, sym, refl, ap, ◌∙◌, subst, append_assoc, append-nil, arith, ne_eqb, eqb-true, le-leb}
+use Rattle.std.proofs.lemmas.Bool.{leb-true}
 use Rattle.std.specs.List.{AllByRecursion}
-use Rattle.escape.specs.Tokens.{Token, plain, escape, broken, tokens, short, numbered, three_digits, digit, further, first_broken, ahead, parts_of, parts, resolved, bytes_meant}
+use Rattle.escape.specs.Tokens.{Token, tokens, short, numbered, three_digits, further, first_broken, ahead, parts_of, parts, resolved, bytes_meant}
 use Rattle.escape.specs.Spelling.{letter_for, in_digits, spelled_with, spelled, spelling}
 use Rattle.escape.proofs.Opening.{tokens_plain}
 use Rattle.escape.proofs.ByTokens.{Escapes, by_letter, by_number, tokens_escape}

@@ -1,6 +1,6 @@
 -- The tokens of a list by its front, as the arms of a slice pattern see it.
-use Rattle.std.proofs.Common.{◌≡◌, ℕ, ◌+◌, ◌-◌, ◌<◌, ◌≤◌, Bool, true, false, cond, eqb, leb, ◌⊎◌, List, [], ◌∷◌, length, get_or, take, drop, Some, None, Option, sym, refl, ap, ◌∙◌, inl, inr, arith, length-drop, take_all, eq-eqb, ne_eqb, le-leb}
-use Rattle.escape.specs.Tokens.{Token, plain, escape, broken, tokens, after_backslash, after_d, escaping, short, numbered, three_digits, digit}
+use Rattle.std.proofs.Common.{◌≡◌, ℕ, ◌-◌, ◌≤◌, Bool, true, false, eqb, List, [], ◌∷◌, length, get_or, take, drop, Some, Option, sym, refl, ap, ◌∙◌, arith, length-drop, take_all, ne_eqb}
+use Rattle.escape.specs.Tokens.{plain, escape, tokens, after_backslash, after_d, escaping, short, numbered}
 
 -- what `rest @ ..` after n elements holds
 pub rest_of : (n : ℕ) (s : List ℕ) → n ≤ length s → take (length s - n) (drop n s) ≡ drop n s

@@ -1,5 +1,5 @@
 -- What writing a message again means for its row.
-use Rattle.std.proofs.Common.{◌≡◌, ℕ, ◌+◌, ◌-◌, ◌<◌, ◌≤◌, Bool, true, false, cond, leb, List, ◌++◌, length, get_or, take, drop, Some, None, Ok, Err, Option, Result, sym, refl, ap, ◌∙◌, arith}
+use Rattle.std.proofs.Common.{◌≡◌, ℕ, ◌-◌, ◌<◌, ◌≤◌, Bool, true, false, cond, leb, List, ◌++◌, length, get_or, take, drop, Some, None, Ok, Err, Option, sym, refl, ap, ◌∙◌, arith}
 use Rattle.std.proofs.lemmas.List.{length-append, drop_more, take_rest, take_at}
 use Rattle.line.specs.Forms.{Side, is_mark}
 use Rattle.line.specs.Lines.{Message, Read, meant, reading}
@@ -9,7 +9,7 @@ use Rattle.writer.specs.Canonical.{canonical, is_address, first_formed, formed}
 use Rattle.writer.specs.Rewriting.{rewrite_fault, rewrite_answer, rewritten}
 use Rattle.writer.proofs.Addresses.{both}
 use Rattle.writer.proofs.Repeating.{writes_again}
-use Rattle.inspect.specs.Rows.{Kind, Row, unsendable, told, kind_of, side_by, row_of_read, row_by, row_for}
+use Rattle.inspect.specs.Rows.{Kind, unsendable, told, kind_of, side_by, row_of_read, row_by, row_for}
 
 pub has_forms : (side : Side) (line : List ℕ) (m : Message) → meant m ≡ reading side line → formed m ≡ true
 has_forms side line m e = (writes_again side line m (sym e)).form

@@ -1,7 +1,7 @@
 -- The promises can be met: a codec that reads each plain line as one fixed message, and a history with it call by call.
 use Rattle.std.proofs.Common.{◌≡◌, ℕ, ◌-◌, min, Bool, true, false, cond, ◌&&◌, eqb, ltb, leb, List, [], ◌∷◌, ◌++◌, length, Some, None, Option, sym, refl, ap, inl, arith}
 use Rattle.std.proofs.lemmas.Bool.{and_parts, ltb-true, leb-true, lt-leb, eqb-true, ne_eqb, and_right, and_left}
-use Rattle.line.specs.Forms.{Side, command, answer, Address}
+use Rattle.line.specs.Forms.{Side, command, answer}
 use Rattle.line.specs.Lines.{Message, Read, meant, faulty}
 use Rattle.reader.specs.Cutting.{bare}
 use Rattle.life.specs.Codec.{Codec, Lawful, Plain, no_ends}

@@ -1,6 +1,6 @@
 -- The state of a link, what each call makes of it, and which histories lead to which state.
 -- In each relation s is the state as the call begins and t the state as it returns.
-use Rattle.std.specs.Prelude.{◌≡◌, ℕ, zero, suc, ◌+◌, ◌%◌, ◌<◌, ◌≤◌, Bool, true, false, ◌⊎◌, List, [], ◌∷◌, ◌++◌, length, take, ◌≢◌}
+use Rattle.std.specs.Prelude.{◌≡◌, ℕ, zero, suc, ◌+◌, ◌%◌, ◌<◌, Bool, true, false, ◌⊎◌, List, [], ◌∷◌, ◌++◌, length, take, ◌≢◌}
 use Rattle.port.specs.Port.{Meaning, Arrived, Departed, Written, Cleared, HungUp}
 use Rattle.line.specs.Forms.{Address}
 use Rattle.line.specs.Lines.{Message, Read, meant, faulty}

@@ -1,9 +1,9 @@
 -- The fields of a body, colon by colon, and the form of a name.
-use Rattle.std.proofs.Common.{◌≡◌, ℕ, ◌-◌, ◌<◌, ◌≤◌, Bool, true, false, cond, leb, List, [], ◌∷◌, ◌++◌, length, get_or, take, drop, is_some, Some, None, Option, sym, refl, ap, ◌∙◌, arith, length-append, le-leb}
+use Rattle.std.proofs.Common.{◌≡◌, ℕ, ◌-◌, ◌<◌, ◌≤◌, true, false, cond, leb, List, [], ◌∷◌, ◌++◌, length, get_or, take, drop, is_some, Some, None, Option, sym, refl, ap, ◌∙◌, arith, length-append, le-leb}
 use Rattle.escape.specs.Tokens.{tokens, ahead, parts}
 use Rattle.escape.proofs.Walking.{ahead_none}
 use Rattle.line.specs.Forms.{name_byte, every, is_name}
-use Rattle.line.specs.Lines.{one_more, nothing_left, all_ended, first_and_later, fields_of}
+use Rattle.line.specs.Lines.{one_more, all_ended, first_and_later, fields_of}
 use Rattle.line.specs.Reads.{first_of}
 use Rattle.line.proofs.Loops.{rest_of}
 

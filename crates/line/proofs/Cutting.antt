@@ -1,10 +1,10 @@
 -- A line and its parts, slash by slash.
-use Rattle.std.proofs.Common.{◌≡◌, ℕ, ◌+◌, ◌-◌, ◌<◌, ◌≤◌, List, [], ◌∷◌, ◌++◌, length, take, Some, None, Option, sym, refl, ap, ◌∙◌, arith, length-append}
+use Rattle.std.proofs.Common.{◌≡◌, ℕ, ◌+◌, ◌-◌, ◌≤◌, List, [], ◌∷◌, ◌++◌, length, take, Some, None, refl, ap, ◌∙◌, arith, length-append}
 use Rattle.std.proofs.lemmas.List.{length-take-le}
 use Rattle.escape.specs.Tokens.{tokens, ahead, parts}
 use Rattle.escape.proofs.Walking.{ahead_none}
-use Rattle.line.specs.Forms.{Side, command, answer}
-use Rattle.line.specs.Lines.{Parts, parted, check_place, body_place}
+use Rattle.line.specs.Forms.{Side, command}
+use Rattle.line.specs.Lines.{parted}
 use Rattle.line.specs.Cuts.{Sums}
 
 -- four slashes or more

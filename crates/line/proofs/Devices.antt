@@ -1,5 +1,5 @@
 -- The device of an address, as the arms of a slice pattern see it, and how many bytes name it.
-use Rattle.std.proofs.Common.{◌≡◌, ℕ, ◌+◌, ◌-◌, ◌<◌, ◌≤◌, Bool, true, false, cond, eqb, leb, List, [], ◌∷◌, length, get_or, take, drop, Some, None, Option, sym, refl, ap, ◌∙◌, subst, arith, eq-eqb, leb-true}
+use Rattle.std.proofs.Common.{◌≡◌, ℕ, ◌+◌, ◌-◌, ◌≤◌, Bool, true, false, cond, eqb, leb, List, [], ◌∷◌, length, get_or, take, drop, Some, None, Option, sym, refl, subst, arith, eq-eqb, leb-true}
 use Rattle.line.specs.Forms.{hex_digit, every, serial_length, pair_length, device_length, if_some, unless_zero, digit_pair}
 use Rattle.line.proofs.Loops.{rest_of}
 

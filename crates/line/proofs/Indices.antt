@@ -1,10 +1,10 @@
 -- The fields of a body by their index.
-use Rattle.std.proofs.Common.{◌≡◌, ℕ, zero, suc, ◌+◌, ◌-◌, ◌<◌, ◌≤◌, Bool, true, false, cond, leb, List, [], ◌∷◌, ◌++◌, map, length, Some, None, Ok, Err, Option, Result, sym, refl, ap, ◌∙◌, arith}
+use Rattle.std.proofs.Common.{◌≡◌, ℕ, zero, suc, ◌-◌, ◌<◌, Bool, true, false, cond, leb, List, [], ◌∷◌, map, length, Some, None, Ok, Err, Option, Result, sym, refl, ap, ◌∙◌, arith}
 use Rattle.std.specs.List.{slice_get}
 use Rattle.std.specs.Option.{option_map, ok_or}
 use Rattle.escape.specs.Tokens.{tokens, ahead, parts, resolved}
 use Rattle.escape.proofs.Walking.{ahead_none}
-use Rattle.line.specs.Lines.{one_more, nothing_left, all_ended, first_and_later, fields_of}
+use Rattle.line.specs.Lines.{one_more, all_ended, first_and_later, fields_of}
 use Rattle.line.specs.Meanings.{body_fields, message_of}
 use Rattle.line.specs.Reads.{first_of}
 use Rattle.line.specs.Fields.{body_of, raw_fields, before_last, field_answer, field_written}

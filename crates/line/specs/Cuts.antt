@@ -1,5 +1,5 @@
 -- What cutting a line into its parts answers.
-use Rattle.std.specs.Prelude.{◌≡◌, ℕ, ◌+◌, ◌≤◌, List, length, take, Some, None, Ok, Err, Option, Result}
+use Rattle.std.specs.Prelude.{◌≡◌, ℕ, ◌≤◌, List, length, take, Some, None, Ok, Err, Option, Result}
 use Rattle.escape.specs.Tokens.{parts}
 use Rattle.line.specs.Forms.{Side}
 use Rattle.line.specs.Lines.{Parts as Meant, parted, check_place, body_place, check_value}

@@ -1,5 +1,5 @@
 -- What one line means: a message, or a fault by its number and its place in the line.
-use Rattle.std.specs.Prelude.{ℕ, ◌+◌, Bool, true, false, cond, List, [], ◌∷◌, map, length, take, Some, None, Option, ◌==◌, nat_le}
+use Rattle.std.specs.Prelude.{ℕ, ◌+◌, true, false, cond, List, [], ◌∷◌, map, length, take, Some, None, Option, ◌==◌, nat_le}
 use Rattle.escape.specs.Tokens.{tokens, first_broken, further, parts, resolved}
 use Rattle.line.specs.Forms.{Side, command, answer, Address, visible, two_digits, address_of, mark_of, check_of, is_first_field}
 

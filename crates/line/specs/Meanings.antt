@@ -4,7 +4,7 @@ use Rattle.std.specs.Option.{unwrap_or}
 use Rattle.escape.specs.Tokens.{resolved}
 use Rattle.line.specs.Forms.{Address, command, answer}
 use Rattle.line.specs.Forms.{Side as Said}
-use Rattle.line.specs.Lines.{Parts, Read, meant, faulty, fields_of}
+use Rattle.line.specs.Lines.{Read, meant, faulty, fields_of}
 use Rattle.line.specs.Lines.{Message as Meaning}
 use Rattle.line.specs.declared.message.Side.{Side}
 use Rattle.line.specs.declared.message.Side.TheVariants.{Command as CommandSide, Answer as AnswerSide}

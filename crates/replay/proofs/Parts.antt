@@ -1,5 +1,5 @@
 -- A buffer of which a call was lent the first n bytes, or all if it has fewer.
-use Rattle.std.proofs.Common.{◌≡◌, ℕ, ◌-◌, ◌≤◌, min, List, ◌++◌, length, take, drop, Some, None, Ok, Err, refl, subst, arith, rules}
+use Rattle.std.proofs.Common.{◌≡◌, ℕ, ◌-◌, ◌≤◌, min, List, ◌++◌, length, take, drop, Some, Ok, Err, refl, subst, arith}
 use Rattle.std.proofs.lemmas.List.{same_lists, places}
 use Rattle.escape.specs.Tokens.{resolved}
 use Rattle.escape.specs.Resolving.{fitting, written}

@@ -1,5 +1,5 @@
 -- A request is judged alike for every digit: by cases over the parts that the slashes cut of its address and of its body.
-use Rattle.std.proofs.Common.{◌≡◌, ℕ, ◌+◌, ◌/◌, ◌%◌, ◌<◌, ◌≤◌, Bool, true, false, cond, ltb, leb, List, [], ◌∷◌, ◌++◌, map, length, take, Some, None, Option, sym, refl, ap, ◌∙◌, subst, append_assoc, arith, length-append, take_at}
+use Rattle.std.proofs.Common.{◌≡◌, ℕ, ◌+◌, ◌/◌, ◌%◌, ◌<◌, ◌≤◌, Bool, true, false, ltb, leb, List, [], ◌∷◌, ◌++◌, map, length, take, Some, None, Option, sym, refl, ap, ◌∙◌, subst, append_assoc, arith, length-append, take_at}
 use Rattle.std.proofs.lemmas.List.{same_from_push}
 use Rattle.std.proofs.lemmas.Bool.{leb-true, leb-false, le-leb, lt-leb, lt-ltb, eq-eqb}
 use Rattle.std.specs.List.{AllByRecursion}
@@ -8,8 +8,8 @@ use Rattle.escape.proofs.Opening.{tokens_plain}
 use Rattle.escape.proofs.Walking.{parts_other, parts_here}
 use Rattle.escape.proofs.Chunks.{Tame, Seen}
 use Rattle.line.specs.Forms.{command, Address, every, visible, two_digits, address_of, mark_of, check_of, is_first_field}
-use Rattle.line.specs.Lines.{Message, Read, meant, faulty, Parts, parted, mark_place, body_place, check_place, all_ended, one_more, nothing_left, first_and_later, fields_of, first_invisible, sum_fault, check_fault, body_read, parts_read, reading}
-use Rattle.writer.specs.Canonical.{in_two_digits, address_text, head_text, closed, canonical, sendable}
+use Rattle.line.specs.Lines.{Message, meant, faulty, Parts, parted, mark_place, body_place, check_place, all_ended, one_more, nothing_left, first_and_later, fields_of, first_invisible, sum_fault, check_fault, body_read, parts_read, reading}
+use Rattle.writer.specs.Canonical.{in_two_digits, head_text, canonical, sendable}
 use Rattle.writer.specs.Laws.{Bytes, has_check, keeps_check}
 use Rattle.writer.proofs.Addresses.{never, tame_digit, two_tame, two_back, formed_address, address_was}
 use Rattle.writer.proofs.Backs.{in_a_row, reading_by}

@@ -1,5 +1,5 @@
 -- What a serial port means as a port.
-use Rattle.std.specs.Prelude.{◌-◌, Bool, true, false, List, [], length}
+use Rattle.std.specs.Prelude.{◌-◌, true, false, [], length}
 use Rattle.port.specs.Port.{Meaning}
 use Rattle.serial.specs.Queues.{held}
 use Rattle.serial.specs.Sizes.{capacity}

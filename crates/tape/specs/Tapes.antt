@@ -1,5 +1,5 @@
 -- What a tape means as a port.
-use Rattle.std.specs.Prelude.{ℕ, ◌-◌, Bool, true, false, List, [], vec_items, vec_len}
+use Rattle.std.specs.Prelude.{ℕ, ◌-◌, true, false, List, [], vec_items, vec_len}
 use Rattle.byte_slices.specs.Parts.{part}
 use Rattle.port.specs.Port.{Meaning}
 use Rattle.tape.specs.declared.tape.Tape.{Tape}

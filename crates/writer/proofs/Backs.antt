@@ -1,15 +1,15 @@
 -- The canonical line reads back: its parts are those that were put together, and each has its form.
-use Rattle.std.proofs.Common.{◌≡◌, ℕ, ◌+◌, ◌-◌, ◌%◌, ◌<◌, ◌≤◌, Bool, true, false, cond, eqb, leb, List, [], ◌∷◌, ◌++◌, map, length, take, drop, Some, None, Option, sym, refl, ap, ◌∙◌, subst, append_assoc, append-nil, arith, length-append, take_at}
+use Rattle.std.proofs.Common.{◌≡◌, ℕ, ◌+◌, Bool, true, false, cond, eqb, leb, List, [], ◌∷◌, ◌++◌, map, length, take, Some, None, Option, sym, refl, ap, ◌∙◌, subst, append_assoc, append-nil, arith, length-append, take_at}
 use Rattle.std.proofs.lemmas.Bool.{leb-true, eqb-true, eq-eqb, le-leb}
 use Rattle.std.specs.List.{AllByRecursion}
 use Rattle.escape.specs.Tokens.{digit, tokens, first_broken, parts, resolved, further}
 use Rattle.escape.specs.Spelling.{spelling}
 use Rattle.escape.proofs.Chunks.{Chunk, chunk_none, chunk_plain, chunk_both, chunk_last, chunk_before, chunk_means, chunk_spelling, chunk_tame, at_colon, at_slash, Tame, tame_spelling, Seen, seen_both, seen_spelling, seen_tame}
-use Rattle.line.specs.Forms.{Side, command, answer, Address, visible, capital, name_byte, every, two_digits, address_of, is_mark, mark_of, sum, check_of, is_status, is_name, is_first_field}
-use Rattle.line.specs.Lines.{Message, Read, meant, faulty, Parts, parted, check_place, one_more, nothing_left, all_ended, first_and_later, fields_of, first_invisible, sum_fault, check_fault, parts_read, reading}
-use Rattle.writer.specs.Canonical.{in_two_digits, address_text, ended, body_text, head_text, closed, canonical, is_address, first_formed, formed, sendable}
+use Rattle.line.specs.Forms.{Side, command, answer, Address, visible, capital, name_byte, every, two_digits, address_of, is_mark, mark_of, check_of, is_first_field}
+use Rattle.line.specs.Lines.{meant, Parts, parted, check_place, one_more, all_ended, first_and_later, fields_of, first_invisible, sum_fault, check_fault, parts_read, reading}
+use Rattle.writer.specs.Canonical.{in_two_digits, address_text, ended, body_text, head_text, closed, canonical, is_address, first_formed, formed}
 use Rattle.writer.specs.Laws.{Bytes, ReadsBack}
-use Rattle.writer.proofs.Addresses.{both, never, digit_bounds, tame_digit, every_tame, two_tame, two_back, formed_address}
+use Rattle.writer.proofs.Addresses.{both, never, tame_digit, every_tame, two_tame, two_back, formed_address}
 
 -- ---- names, statuses and marks stand for themselves
 tame_capital : (b : ℕ) → capital b ≡ true → Tame b

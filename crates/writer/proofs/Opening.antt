@@ -1,14 +1,13 @@
 -- Lines as they are begun, added to and closed.
-use Rattle.std.proofs.Common.{◌≡◌, ℕ, zero, suc, ◌+◌, ◌-◌, ◌^◌, ◌<◌, ◌≤◌, Bool, true, false, cond, eqb, leb, List, [], ◌∷◌, ◌++◌, length, get_or, drop, is_some, Some, None, Option, sym, refl, ap, ◌∙◌, subst, append_assoc, append-nil, arith, length-append, w8, Fits}
-use Rattle.std.proofs.lemmas.Bool.{leb-true, le-leb, lt-leb, eq-eqb, ne_eqb}
+use Rattle.std.proofs.Common.{◌≡◌, ℕ, suc, ◌+◌, ◌<◌, ◌≤◌, Bool, true, false, cond, leb, List, [], ◌∷◌, ◌++◌, length, get_or, is_some, Some, None, Option, sym, refl, ap, ◌∙◌, subst, append_assoc, append-nil, arith, length-append, w8, Fits}
+use Rattle.std.proofs.lemmas.Bool.{leb-true, le-leb, lt-leb, ne_eqb}
 use Rattle.std.specs.List.{AllByRecursion}
 use Rattle.escape.specs.Spelling.{spelling}
 use Rattle.escape.proofs.Chunks.{Tame, tame_spelling}
-use Rattle.line.specs.Forms.{Side, command, answer, Address, every, capital, name_byte, digit_pair, address_of, is_mark, check_of, is_first_field}
+use Rattle.line.specs.Forms.{Side, command, answer, Address, every, capital, name_byte, address_of, is_mark, check_of, is_first_field}
 use Rattle.line.specs.Lines.{Message}
-use Rattle.line.specs.declared.fault.Fault.{Fault}
 use Rattle.line.specs.declared.fault.Fault.TheVariants.{TooLong, BadAddress, BadMark, FirstField, ShortBuffer}
-use Rattle.writer.specs.Canonical.{in_two_digits, address_text, ended, body_text, head_text, closed, canonical, is_address, first_formed, formed, sendable}
+use Rattle.writer.specs.Canonical.{in_two_digits, address_text, ended, body_text, head_text, closed, canonical, is_address, first_formed, sendable}
 use Rattle.writer.specs.Laws.{Bytes}
 use Rattle.writer.specs.Writing.{address_read, begun, with_field, unclosed, Lies, Opened, Closed, room_fault, begin_fault, add_fault}
 use Rattle.writer.proofs.Addresses.{both, never, address_was, address_short}

@@ -1,13 +1,13 @@
 -- A body taken piece by piece, and written anew.
-use Rattle.std.proofs.Common.{◌≡◌, ℕ, ◌+◌, ◌<◌, ◌≤◌, Bool, true, false, cond, eqb, leb, ◌⊎◌, List, [], ◌∷◌, ◌++◌, map, length, drop, Some, None, Ok, Err, Option, Result, sym, refl, ap, ◌∙◌, subst, inl, inr, append_assoc, append-nil, arith, length-append}
+use Rattle.std.proofs.Common.{◌≡◌, ℕ, ◌+◌, ◌<◌, ◌≤◌, Bool, true, false, cond, ◌⊎◌, List, [], ◌∷◌, ◌++◌, map, length, Some, None, Ok, Err, Option, Result, sym, refl, ap, ◌∙◌, subst, inl, inr, append_assoc, append-nil, arith}
 use Rattle.std.proofs.lemmas.Bool.{le-leb, lt-leb, ne_eqb, cases_eq}
-use Rattle.escape.specs.Tokens.{Token, plain, escape, broken, tokens, ahead, parts_of, parts, resolved, bytes_meant}
+use Rattle.escape.specs.Tokens.{Token, plain, tokens, ahead, parts_of, parts, resolved, bytes_meant}
 use Rattle.escape.specs.Spelling.{spelled, spelling}
 use Rattle.escape.proofs.Opening.{tokens_plain}
 use Rattle.escape.proofs.ByTokens.{tokens_escape, by_tokens}
 use Rattle.escape.proofs.Walking.{parts_other, parts_here, ahead_none}
 use Rattle.escape.proofs.Chunks.{chunk_tame, chunk_means, at_colon}
-use Rattle.line.specs.Forms.{Side, is_mark, is_first_field}
+use Rattle.line.specs.Forms.{Side, is_mark}
 use Rattle.line.specs.Forms.{Address}
 use Rattle.line.specs.Lines.{Message, fields_of}
 use Rattle.line.specs.Meanings.{body_fields, message_of}

@@ -1,12 +1,12 @@
 -- What was read can be written again, and two messages are not written alike.
-use Rattle.std.proofs.Common.{◌≡◌, ℕ, ◌+◌, ◌<◌, ◌≤◌, Bool, true, false, cond, eqb, leb, List, [], ◌∷◌, ◌++◌, map, length, take, is_some, Some, None, Option, sym, refl, ap, ◌∙◌, subst, arith, length-append}
-use Rattle.std.proofs.lemmas.Bool.{leb-true, eqb-true}
+use Rattle.std.proofs.Common.{◌≡◌, ℕ, ◌+◌, ◌<◌, ◌≤◌, Bool, true, false, cond, leb, List, [], ◌∷◌, ◌++◌, map, length, take, is_some, Some, None, Option, sym, refl, ap, ◌∙◌, subst, arith, length-append}
+use Rattle.std.proofs.lemmas.Bool.{leb-true}
 use Rattle.std.specs.List.{AllByRecursion}
 use Rattle.escape.specs.Tokens.{digit, tokens, first_broken, further, parts, resolved}
 use Rattle.escape.specs.Spelling.{spelling}
 use Rattle.escape.proofs.Chunks.{Seen, chunk_tame, chunk_means, at_colon, tame_spelling}
-use Rattle.line.specs.Forms.{Side, command, answer, Address, visible, capital, two_digits, address_of, is_mark, mark_of, check_of, is_name, is_status, is_first_field}
-use Rattle.line.specs.Lines.{Message, Read, meant, faulty, Parts, unchecked, parted, mark_place, body_place, check_place, one_more, nothing_left, all_ended, first_and_later, fields_of, first_invisible, unless_at, or_fault, unless_number, sum_fault, check_fault, body_read, parts_read, reading}
+use Rattle.line.specs.Forms.{Side, command, answer, Address, visible, capital, address_of, is_mark, mark_of, check_of, is_name, is_status, is_first_field}
+use Rattle.line.specs.Lines.{Message, meant, faulty, Parts, parted, mark_place, body_place, check_place, one_more, all_ended, first_and_later, fields_of, first_invisible, unless_at, or_fault, unless_number, check_fault, body_read, parts_read, reading}
 use Rattle.writer.specs.Canonical.{in_two_digits, address_text, ended, body_text, head_text, closed, canonical, is_address, first_formed, formed, sendable}
 use Rattle.writer.specs.Laws.{Bytes, OneMessage, keeps_check, has_check, WrittenAgain, WritesAgain}
 use Rattle.writer.proofs.Addresses.{both, never, digit_bounds, address_was}

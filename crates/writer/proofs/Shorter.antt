@@ -1,6 +1,6 @@
 -- No way to spell some bytes is shorter than the canonical one.
 use Rattle.std.proofs.Common.{◌≡◌, ℕ, ◌+◌, ◌<◌, ◌≤◌, Bool, true, false, cond, eqb, leb, ◌⊎◌, List, [], ◌∷◌, ◌++◌, length, Some, None, Option, sym, refl, ap, ◌∙◌, subst, inl, inr, append-nil, arith, length-append}
-use Rattle.std.proofs.lemmas.Bool.{eqb-true, leb-true, cases_eq}
+use Rattle.std.proofs.lemmas.Bool.{leb-true, cases_eq}
 use Rattle.std.specs.List.{AllByRecursion}
 use Rattle.escape.specs.Tokens.{Token, plain, escape, broken, tokens, short, numbered, three_digits, digit, ahead, parts_of, parts, resolved, bytes_meant}
 use Rattle.escape.specs.Spelling.{letter_for, in_digits, spelled_with, spelled, spelling}

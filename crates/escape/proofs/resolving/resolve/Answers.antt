@@ -1,4 +1,4 @@
-use Rattle.std.proofs.Common.{◌≡◌, ℕ, ◌+◌, ◌≤◌, List, [], length, sym, ap, ◌∙◌, arith}
+use Rattle.std.proofs.Common.{length, sym, ap, ◌∙◌, arith}
 use Rattle.escape.specs.Tokens.{resolved}
 use Rattle.escape.proofs.Fronting.{laid, laid_more, laid_all, fits, wrote, too_long}
 use Rattle.escape.proofs.resolving.resolve.Goals as goal

@@ -1,4 +1,4 @@
-use Rattle.std.proofs.Common.{◌≡◌, ◌+◌, ◌≤◌, length}
+use Rattle.std.proofs.Common.{◌≡◌, ◌+◌, length}
 use Rattle.escape.specs.Tokens.{resolved}
 use Rattle.escape.proofs.Fronting.{laid}
 use Rattle.escape.proofs.resolving.resolve.Given as goal

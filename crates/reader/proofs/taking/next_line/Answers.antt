@@ -1,4 +1,4 @@
-use Rattle.std.proofs.Common.{◌≡◌, sym, ◌∙◌, rules}
+use Rattle.std.proofs.Common.{sym, ◌∙◌, rules}
 use Rattle.reader.specs.Unfinished.{part_of}
 use Rattle.reader.proofs.Steps.{nothing_left, last_byte}
 use Rattle.reader.proofs.taking.next_line.Goals as goal

@@ -1,4 +1,4 @@
-use Rattle.std.proofs.Common.{◌≡◌, ℕ, ◌+◌, length, ap, arith}
+use Rattle.std.proofs.Common.{◌+◌, length, ap, arith}
 use Rattle.writer.proofs.Growing.{within, longer, spelling_all}
 use Rattle.writer.proofs.spelled.spelled_within.Goals as goal
 

@@ -1,4 +1,4 @@
-use Rattle.std.proofs.Common.{◌≡◌, length, sym, ◌∙◌, arith, length-take, rules}
+use Rattle.std.proofs.Common.{◌∙◌, length-take, rules}
 use Rattle.reader.specs.Unfinished.{part_of}
 use Rattle.reader.proofs.Steps.{step_line, step_empty}
 use Rattle.reader.proofs.unfinished.Unfinished.take.Goals as goal

@@ -1,4 +1,4 @@
-use Rattle.std.proofs.Common.{◌≡◌, ◌≤◌, length, arith, rules, sym, ◌∙◌}
+use Rattle.std.proofs.Common.{◌≡◌, length, arith, rules, sym, ◌∙◌}
 use Rattle.escape.proofs.Fronting.{too_long as stays}
 use Rattle.numbers.proofs.Texts.{none_fits, some_fits}
 use Rattle.replay.specs.Desks.{too_long}

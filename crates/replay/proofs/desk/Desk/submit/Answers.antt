@@ -1,4 +1,4 @@
-use Rattle.std.proofs.Common.{refl, rules}
+use Rattle.std.proofs.Common.{refl}
 use Rattle.replay.specs.Desks.{accepted, refused}
 use Rattle.replay.proofs.desk.Desk.submit.Goals as goal
 

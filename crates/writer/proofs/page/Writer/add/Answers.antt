@@ -1,4 +1,4 @@
-use Rattle.std.proofs.Common.{◌<◌, length, refl, ◌∙◌, arith}
+use Rattle.std.proofs.Common.{length, refl, ◌∙◌, arith}
 use Rattle.writer.specs.Writing.{unclosed}
 use Rattle.writer.proofs.Opening.{every_byte, added, add_long, add_no_room, add_room}
 use Rattle.writer.proofs.page.Writer.add.Goals as goal

@@ -1,4 +1,3 @@
-use Rattle.std.proofs.Common.{arith}
 use Rattle.writer.specs.Writing.{unclosed}
 use Rattle.writer.proofs.Opening.{closed_by}
 use Rattle.writer.proofs.page.Writer.close.Goals as goal

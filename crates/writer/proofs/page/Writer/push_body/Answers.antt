@@ -1,4 +1,4 @@
-use Rattle.std.proofs.Common.{◌≡◌, ℕ, ◌+◌, List, ◌++◌, length, sym, ap, ◌∙◌, subst, append_assoc, arith, length-append}
+use Rattle.std.proofs.Common.{ℕ, List, ◌++◌, length, ap, ◌∙◌, subst, append_assoc, arith, length-append}
 use Rattle.escape.specs.Tokens.{tokens}
 use Rattle.writer.specs.Writing.{Lies}
 use Rattle.writer.specs.Rewriting.{piece_text, respelt}

@@ -1,4 +1,4 @@
-use Rattle.std.proofs.Common.{◌≡◌, ℕ, ◌+◌, List, ◌++◌, length, ap, ◌∙◌, subst, arith}
+use Rattle.std.proofs.Common.{ℕ, ◌+◌, List, ◌++◌, length, ap, ◌∙◌, subst, arith}
 use Rattle.writer.specs.Writing.{Lies}
 use Rattle.writer.proofs.Growing.{spelled_turn, within, longer, spelling_all}
 use Rattle.writer.proofs.Opening.{every_byte}

@@ -1,4 +1,4 @@
-use Rattle.std.proofs.Common.{◌≡◌, ℕ, ◌+◌, List, [], ◌++◌, length, ap, ◌∙◌, subst, arith, Bor}
+use Rattle.std.proofs.Common.{ℕ, ◌+◌, List, [], ◌++◌, length, ap, ◌∙◌, subst, arith, Bor}
 use Rattle.writer.specs.Canonical.{body_text}
 use Rattle.writer.specs.Laws.{Bytes}
 use Rattle.writer.specs.Writing.{Lies}

@@ -1,4 +1,4 @@
-use Rattle.std.proofs.Common.{[], ◌∷◌, ◌++◌, ◌∙◌, arith, length-append}
+use Rattle.std.proofs.Common.{[], ◌∙◌, arith, length-append}
 use Rattle.writer.specs.Canonical.{zone_text}
 use Rattle.writer.proofs.Growing.{lies_none}
 use Rattle.writer.proofs.page.Writer.push_line.Goals as goal
