@@ -1,41 +1,18 @@
 // Drives a link by a script: the first 65,536 bytes of standard input, a call to a line, and a row for each.
 #![tactic(auto)]
 
-mod desk;
-mod lines;
-mod row;
-
-use crate::desk::Desk;
-use crate::lines::{first_line, is_silent};
-use crate::row::Told;
+use console::first_bytes;
+use desk::{Desk, Told, first_line, is_silent, without_port};
 use link::Link;
-use numbers::same_bytes;
 use port::{LineControl, Port};
 use script::asked_by;
 use serial::Serial;
-use std::io::Read;
 
-// The most bytes of a script that are read, and so the most that an arriving text means.
+// The most bytes of a script, and so the most that an arriving text means.
 const SCRIPT_MAX: usize = 65536;
 
 // The link number of the link that the script drives.
 const LINK_NUMBER: u16 = 1;
-
-// The first bytes of standard input, until it ends or there are enough.
-fn script(rt: &HostRuntime) -> anyhow::Result<Vec<u8>> {
-    let mut bytes = vec![in rt.alloc(); 0; SCRIPT_MAX]?;
-    let mut stdin = rt.stdin();
-    let mut len: usize = 0;
-    for _ in 0..SCRIPT_MAX {
-        let came = stdin.read(&mut bytes[len..])?;
-        if came == 0 {
-            break;
-        }
-        len += came;
-    }
-    bytes.truncate(len);
-    Ok(bytes)
-}
 
 // A row for each line that is not silent.
 fn tell_all<P: Port>(rt: &HostRuntime, desk: &mut Desk<P>, script: &[u8]) -> anyhow::Result<()> {
@@ -60,18 +37,18 @@ fn tell_all<P: Port>(rt: &HostRuntime, desk: &mut Desk<P>, script: &[u8]) -> any
 fn run_over<P: Port + Drop>(rt: &HostRuntime, port: P, script: &[u8]) -> anyhow::Result<()> {
     let mut desk = Desk::new(Link::new(port, LINK_NUMBER));
     let outcome = tell_all(rt, &mut desk, script);
-    desk.close();
+    let _link = desk.close();
     outcome
 }
 
 fn run(rt: &HostRuntime) -> anyhow::Result<()> {
-    let script = script(rt)?;
-    let (first, rest) = first_line(&script);
-    if same_bytes(first, b"port controlled") {
-        rt.println("PORT controlled")?;
-        run_over(rt, LineControl::new(Serial::new()), rest)
-    } else {
-        run_over(rt, Serial::new(), &script)
+    let script = first_bytes(rt)?;
+    match without_port(&script) {
+        Some(rest) => {
+            rt.println("PORT controlled")?;
+            run_over(rt, LineControl::new(Serial::new()), rest)
+        }
+        None => run_over(rt, Serial::new(), &script),
     }
 }
 

@@ -1,0 +1,4 @@
+pub mod Ends
+pub mod Parts
+pub mod Same
+pub mod Others

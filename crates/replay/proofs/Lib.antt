@@ -1,3 +1,0 @@
-pub mod Ends
-pub mod Parts
-pub mod Others

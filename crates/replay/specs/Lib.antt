@@ -1,3 +1,0 @@
--- Scripts by their lines, and what a desk makes of a call.
-pub mod Lines
-pub mod Desks
