@@ -6,8 +6,7 @@ use Rattle.line.specs.declared.fault.Fault.{Fault}
 use Rattle.line.specs.declared.fault.Layer.{Layer}
 use Rattle.line.specs.declared.fault.Layer.TheVariants.{Line, Parts, Body, Record}
 use Rattle.link.specs.Shown.{pumped_text}
-use Rattle.numbers.specs.declared.slot.Outcome.{Outcome}
-use Rattle.numbers.specs.declared.slot.Outcome.TheVariants.{Answered, GivenUp, Lost, Foreign}
+use Rattle.numbers.specs.Slots.{outcome_name}
 use Rattle.desk.specs.declared.row.Row.{Row}
 use Rattle.desk.specs.declared.row.Row.TheVariants.{Ticket, Refused, Pumped, Settled, NoTicket, Reset, Arrived, Departed, Clear, Unknown}
 
@@ -16,12 +15,6 @@ layer_name Line = codes "line"
 layer_name Parts = codes "parts"
 layer_name Body = codes "body"
 layer_name Record = codes "record"
-
-abbrev pub outcome_name : Outcome → List ℕ
-outcome_name Answered = codes "ANSWERED"
-outcome_name GivenUp = codes "GIVEN UP"
-outcome_name Lost = codes "LOST"
-outcome_name Foreign = codes "FOREIGN"
 
 -- the number, and the place and layer if the fault has both
 abbrev pub refused_at : ℕ → Option ℕ → Option Layer → List ℕ

@@ -1,6 +1,6 @@
 // Rows: what is told of each call.
 ghost use Rattle.std.specs.Prelude.{◌≡◌, take, Some};
-ghost use Rattle.desk.specs.Shown.{layer_name, outcome_name, refusal_text, departed_text, clear_text, row_text};
+ghost use Rattle.desk.specs.Shown.{layer_name, refusal_text, departed_text, clear_text, row_text};
 
 use console::Spelled;
 use line::{Fault, Layer};
@@ -41,17 +41,6 @@ fn layer_name(layer: Layer) -> &'static str
         Layer::Parts => "parts",
         Layer::Body => "body",
         Layer::Record => "record",
-    }
-}
-
-fn outcome_name(outcome: Outcome) -> &'static str
-    ensures { result.now ≡ outcome_name outcome }
-{
-    match outcome {
-        Outcome::Answered => "ANSWERED",
-        Outcome::GivenUp => "GIVEN UP",
-        Outcome::Lost => "LOST",
-        Outcome::Foreign => "FOREIGN",
     }
 }
 
@@ -124,7 +113,7 @@ impl<'a> fmt::Display for Told<'a> {
                 write!(f, "{refusal}")
             }
             Row::Pumped(pumped) => write!(f, "{pumped}"),
-            Row::Settled(outcome) => f.write_str(outcome_name(outcome)),
+            Row::Settled(outcome) => write!(f, "{outcome}"),
             Row::NoTicket => f.write_str("NO TICKET"),
             Row::Reset(count) => write!(f, "RESET {count}"),
             Row::Arrived(count) => write!(f, "ARRIVED {count}"),
