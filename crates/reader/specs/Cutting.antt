@@ -1,5 +1,5 @@
 -- A stream by its lines: a line ends with byte 13 or 10, an empty line is ignored, and bytes after the last end are not yet a line.
-use Rattle.std.specs.Prelude.{ℕ, Bool, true, false, cond, List, [], ◌∷◌, ◌++◌, map, length, ◌==◌, nat_lt}
+use Rattle.std.specs.Prelude.{ℕ, Bool, true, false, cond, List, [], ◌∷◌, ◌++◌, map, length, Some, None, Option, ◌==◌, nat_lt}
 use Rattle.reader.specs.Stream.{Cutter, run, after}
 
 abbrev pub is_end : ℕ → Bool
@@ -37,6 +37,10 @@ pub record Part : Type 0 where
 
 abbrev pub bare : Part
 bare = record { kept = []; over = false }
+
+-- the line, unless more of it came than is kept
+abbrev pub whole : Part → Option (List ℕ)
+whole p = cond p.over None (Some p.kept)
 
 -- with one byte more, of which `most` are kept
 abbrev pub longer : ℕ → Part → ℕ → Part

@@ -1,5 +1,6 @@
-// The line that has not ended yet: its first 1,024 bytes, and whether more of it came.
-ghost use Rattle.std.specs.Prelude.{◌≤◌};
+// The line that has not ended yet: at most its first 1,024 bytes, and whether more of it came.
+use arrayvec::ArrayVec;
+use std::marker::Model;
 
 mod methods;
 
@@ -7,8 +8,14 @@ pub const MOST: usize = 1024;
 
 #[derive(Drop)]
 pub struct Unfinished {
-    bytes: [u8; MOST],
-    len: usize,
+    bytes: ArrayVec<u8, MOST>,
     over: bool,
-    ghost fits: { len ≤ 1024 },
+}
+
+impl Model for Unfinished {
+    ghost use Rattle.reader.specs.Cutting.{Part};
+
+    ghost Value = { Part };
+
+    ghost view = { λ u. record { kept = u.bytes.items; over = u.over } };
 }

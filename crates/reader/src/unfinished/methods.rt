@@ -1,10 +1,12 @@
 // What can be done with an unfinished line: it takes bytes one by one, and says when it has ended.
 ghost use Rattle.std.specs.Prelude.{◌≡◌, ℕ, ◌≤◌, List, ◌∷◌, length};
+ghost use Rattle.std.specs.Option.{option_copied};
 ghost use Rattle.reader.specs.Stream.{first_cut};
-ghost use Rattle.reader.specs.Cutting.{bare, longer as with_byte, by_parts, is_end};
-ghost use Rattle.reader.specs.Unfinished.{part_of, went_on};
+ghost use Rattle.reader.specs.Cutting.{bare, longer as with_byte, whole, by_parts, is_end};
+ghost use Rattle.reader.specs.Unfinished.{went_on};
 
-use crate::unfinished::{MOST, Unfinished};
+use crate::unfinished::Unfinished;
+use arrayvec::ArrayVec;
 
 fn ends_line(byte: u8) -> bool
     ensures { result ≡ is_end byte }
@@ -14,59 +16,56 @@ fn ends_line(byte: u8) -> bool
 
 impl Unfinished {
     pub fn new() -> Unfinished
-        ensures { part_of result ≡ bare }
+        ensures { result ≡ bare }
     {
         Unfinished {
-            bytes: [0; MOST],
-            len: 0,
+            bytes: ArrayVec::new(),
             over: false,
         }
     }
 
     // The bytes held, at most the first 1,024 of the line.
     pub fn held(&self) -> &[u8]
-        ensures bytes { result.now ≡ (part_of self.now).kept }
+        ensures bytes { result.now ≡ self.now.kept }
         ensures fits { length result.now ≤ 1024 }
     {
-        &self.bytes[0..self.len]
+        self.bytes.as_slice()
     }
 
-    // Whether more of the line came than is held.
-    pub fn over(&self) -> bool
-        ensures { result ≡ (part_of self.now).over }
+    // The whole line; none if more of it came than is held.
+    pub fn whole(&self) -> Option<&[u8]>
+        ensures { option_copied result ≡ whole self.now }
     {
-        self.over
+        if self.over { None } else { Some(self.held()) }
     }
 
     // Lets the line go.
     pub fn clear(&mut self)
-        ensures { part_of self.new ≡ bare }
+        ensures { self.new ≡ bare }
     {
-        self.len = 0;
+        self.bytes.clear();
         self.over = false;
     }
 
     // One byte more, or that more came.
     fn push(&mut self, byte: u8)
-        ensures { part_of self.new ≡ with_byte 1024 (part_of self.old) byte }
+        ensures { self.new ≡ with_byte 1024 self.old byte }
     {
-        if self.len < MOST {
-            self.bytes[self.len] = byte;
-            self.len += 1;
-        } else {
+        if self.bytes.try_push(byte).is_err() {
             self.over = true;
         }
     }
 
-    // Takes the next byte of the stream. True: it ended the line, which is held until it is cleared.
+    // Takes the next byte of the stream. True: it ended the line, which is held until it is cleared. A flag, and not the line: a result
+    // that borrows from what was lent to be written would keep its owner from knowing what is held.
     pub fn take(&mut self, byte: u8) -> bool
-        ensures { (rest : List ℕ) → first_cut by_parts (part_of self.old) (byte ∷ rest) ≡ went_on result (part_of self.new) rest }
+        ensures { (rest : List ℕ) → first_cut by_parts self.old (byte ∷ rest) ≡ went_on result self.new rest }
     {
         if !ends_line(byte) {
             self.push(byte);
             return false;
         }
-        if self.len > 0 {
+        if !self.bytes.is_empty() {
             return true;
         }
         self.clear();
