@@ -1,12 +1,12 @@
 -- The kind of a line by its mark.
-use Rattle.std.proofs.Common.{◌≡◌, ℕ, ◌+◌, ◌-◌, ◌<◌, Bool, true, false, eqb, leb, List, Some, None, Option, sym, refl, ap, ◌∙◌, subst, arith}
+use Rattle.std.proofs.Common.{◌≡◌, ℕ, ◌+◌, ◌-◌, ◌<◌, Bool, true, false, cond, eqb, leb, List, Some, None, Option, sym, refl, ap, ◌∙◌, subst, arith}
 use Rattle.std.proofs.lemmas.Bool.{eqb-true, leb-true}
 use Rattle.escape.specs.Tokens.{digit}
 use Rattle.line.specs.Forms.{answer, is_mark}
-use Rattle.line.specs.Lines.{Message, Read, meant}
+use Rattle.line.specs.Lines.{Message, Read, meant, faulty}
 use Rattle.line.specs.Meanings.{told}
 use Rattle.line.specs.declared.fault.Fault.{Fault}
-use Rattle.reader.specs.Cutting.{Part}
+use Rattle.reader.specs.Cutting.{Part, whole}
 use Rattle.life.specs.Codec.{read_part}
 use Rattle.life.specs.Calls.{Kind as Told-kind}
 use Rattle.life.specs.Calls.{fault}
@@ -16,7 +16,7 @@ use Rattle.numbers.specs.Ours.{as_answer, ours}
 use Rattle.link.specs.declared.pumped.Kind.{Kind}
 use Rattle.link.specs.declared.pumped.Kind.TheVariants.{Fault as FaultKind, Event, Notice, Stray, Misplaced, More, Last, Late, LateLast}
 use Rattle.link.specs.Meanings.{kind_of, read_told}
-use Rattle.link.specs.Steps.{digit_number, without_number, ToldAs}
+use Rattle.link.specs.Steps.{digit_number, without_number, line_read, ToldAs}
 use Rattle.link.proofs.Marks.{message_marked}
 
 -- a number told by a mark
@@ -83,18 +83,29 @@ read_again b a m (Last n) l t = refl
 read_again b a m (Late n) l t = refl
 read_again b a m (LateLast n) l t = refl
 
--- ---- a line, of which so much is held
-abbrev part : List ℕ → Bool → Part
-part kept over = record { kept = kept; over = over }
+-- ---- a line that has ended
+pub line_marked : (line : Option (List ℕ)) (m : Message) → meant m ≡ line_read line → is_mark answer m.mark ≡ true
+line_marked None m is = let z : ◌≡◌ {A = ℕ} 0 1 = cc in absurd (omega arith)
+line_marked (Some l) m is = message_marked l m is
 
-pub held_marked : (kept : List ℕ) (over : Bool) (m : Message) → meant m ≡ read_part ours (part kept over) → is_mark answer m.mark ≡ true
-held_marked kept true m is = let z : ◌≡◌ {A = ℕ} 0 1 = cc in absurd (omega arith)
-held_marked kept false m is = message_marked kept m is
+part_read : (p : Part) → line_read (whole p) ≡ read_part ours p
+part_read p = go p.over
+  where
+    go : (v : Bool) → line_read (cond v None (Some p.kept)) ≡ cond v (faulty 1 1024) (as_answer p.kept)
+    go true = refl
+    go false = refl
 
-module _ (kept : List ℕ) (b a : ℕ → Standing) where
-  pub tells_fault : (over : Bool) (f : Fault) → told f ≡ read_part ours (part kept over) → ToldAs kept over b b (FaultKind f)
-  tells_fault over f is = record { told = subst (λ (r : Read). Told ours b b r fault) is (told_fault _ _ (λ i. refl)); read = is }
+module _ (b a : ℕ → Standing) (line : Option (List ℕ)) (p : Part) (e : whole p ≡ line) where
+  held : line_read line ≡ read_part ours p
+  held = ap line_read (sym e) ∙ part_read p
 
-  pub tells_message : (over : Bool) (m : Message) (k : Kind) → meant m ≡ read_part ours (part kept over) → Told ours b a (meant m) (kind_of k) → ToldAs kept over b a k
-  tells_message true m k is t = let z : ◌≡◌ {A = ℕ} 0 1 = cc in absurd (omega arith)
-  tells_message false m k is t = record { told = subst (λ (r : Read). Told ours b a r (kind_of k)) is t; read = read_again b a m k kept t ∙ refl }
+  pub tells_fault : (f : Fault) → told f ≡ line_read line → ToldAs p b b (FaultKind f)
+  tells_fault f is = record { told = subst (λ (r : Read). Told ours b b r fault) (is ∙ held) (told_fault _ _ (λ i. refl)); read = is ∙ held }
+
+  pub tells_message : (m : Message) (k : Kind) → meant m ≡ line_read line → Told ours b a (meant m) (kind_of k) → ToldAs p b a k
+  tells_message m k is t =
+      record { told = subst (λ (r : Read). Told ours b a r (kind_of k)) (is ∙ held) t; read = read_again b a m k p.kept t ∙ stands p.over (is ∙ held) }
+    where
+      stands : (v : Bool) → meant m ≡ cond v (faulty 1 1024) (as_answer p.kept) → as_answer p.kept ≡ cond v (faulty 1 1024) (as_answer p.kept)
+      stands true s = let z : ◌≡◌ {A = ℕ} 0 1 = cc in absurd (omega arith)
+      stands false s = refl

@@ -1,5 +1,5 @@
 -- A submit, step by step: its line, the reasons to refuse it, and what an accepted one does.
-use Rattle.std.proofs.Common.{◌≡◌, ℕ, ◌+◌, ◌-◌, ◌%◌, ◌<◌, ◌≤◌, min, true, List, [], ◌∷◌, ◌++◌, length, take, drop, set, Ok, Err, sym, ap, ◌∙◌, subst, arith, length-append, length-drop, le-leb}
+use Rattle.std.proofs.Common.{◌≡◌, ℕ, ◌+◌, ◌%◌, ◌<◌, ◌≤◌, min, true, List, [], ◌∷◌, ◌++◌, length, take, drop, set, Ok, Err, sym, ap, ◌∙◌, subst, arith, length-append, length-drop, le-leb}
 use Rattle.std.proofs.lemmas.List.{take_more_set, take_at, length_push}
 use Rattle.escape.specs.Tokens.{digit}
 use Rattle.line.specs.Lines.{Read}
@@ -9,7 +9,6 @@ use Rattle.line.specs.declared.fault.Fault.TheVariants.{NoRoom}
 use Rattle.port.specs.Port.{Meaning, Written}
 use Rattle.writer.specs.Canonical.{canonical}
 use Rattle.life.specs.Link.{State, is_open, FirstFree, Put, ended_line}
-use Rattle.reader.specs.Unfinished.{part_of}
 use Rattle.numbers.specs.Ours.{ours}
 use Rattle.numbers.specs.Slots.{pending_of}
 use Rattle.numbers.specs.Ten.{slots_of}
@@ -74,13 +73,12 @@ written_is a z l line e fits w =
 pub accepted : (a z : Meaning) (core new : Core) (address body out : List ℕ) (n room : ℕ) (p : Prepared)
     → n < 10 → FirstFree (slots_of core.numbers) core.numbers.recent n → LineReady (request_read address (48 + n) body) (48 + n) out p
     → room ≡ a.room_out → p.length + 1 ≤ room
-    → Written a z (take (p.length + 1 - 0) out) (min (length (take (p.length + 1 - 0) out)) a.room_out)
+    → Written a z (take (p.length + 1) out) (min (length (take (p.length + 1) out)) a.room_out)
     → Put (slots_of core.numbers) n (is_open (pending_of p.pending)) (slots_of new.numbers)
     → new.numbers.recent ≡ n → new.number ≡ core.number → new.unfinished ≡ core.unfinished
     → Accepts (state a core) address body new.number n (state z new)
 accepted a z core new address body out n room p few free w is fits wrote slots recent link unfinished =
     let m = w.message in
-    let line : take (p.length + 1 - 0) out ≡ ended_line ours m = ap (λ (k : ℕ). take k out) (omega arith) ∙ w.front in
     let size : length (ended_line ours m) ≡ p.length + 1 = length_push (canonical m) 13 ∙ ap (λ (k : ℕ). k + 1) (sym w.length_of) in
     record {
       message = m;
@@ -89,9 +87,9 @@ accepted a z core new address body out n room p few free w is fits wrote slots r
         sendable = w.sends;
         number = free;
         mark = w.mark;
-        port = written_is a z (take (p.length + 1 - 0) out) (ended_line ours m) line (omega (arith, size)) wrote;
+        port = written_is a z (take (p.length + 1) out) (ended_line ours m) w.front (omega (arith, size)) wrote;
         link = link;
-        unfinished = ap part_of unfinished;
+        unfinished = unfinished;
         slots = rw (sym w.pending) slots;
         recent = recent;
       };

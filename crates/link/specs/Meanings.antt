@@ -6,7 +6,6 @@ use Rattle.line.specs.Meanings.{told, number_of, message_of}
 use Rattle.line.specs.declared.fault.Fault.{Fault}
 use Rattle.line.specs.declared.message.Message.{Message}
 use Rattle.port.specs.Port.{Meaning}
-use Rattle.reader.specs.Unfinished.{part_of}
 use Rattle.numbers.specs.Ours.{as_answer, ours}
 use Rattle.numbers.specs.Slots.{outcome_of}
 use Rattle.numbers.specs.Ten.{slots_of}
@@ -21,15 +20,20 @@ use Rattle.link.specs.declared.pumped.Kind.TheVariants.{Fault as FaultKind, Even
 use Rattle.link.specs.declared.pumped.Pumped.{Pumped}
 use Rattle.link.specs.declared.pumped.Pumped.TheVariants.{Dry, Line}
 use Rattle.link.specs.declared.inner.Core.{Core}
+use Rattle.link.specs.declared.link.Link.{Link}
 
 abbrev pub state : Meaning → Core → State
 state port core = record {
   port = port;
   link = core.number;
-  unfinished = part_of core.unfinished;
+  unfinished = core.unfinished;
   slots = slots_of core.numbers;
   recent = core.numbers.recent;
 }
+
+-- a link as the promises of its whole life speak of it, by what its port means
+abbrev pub state_of : {P : Type 0} → (P → Meaning) → Link P → State
+state_of meaning l = state (meaning l.port) l.core
 
 -- ---- answers
 abbrev pub kind_of : Kind → Told-kind

@@ -36,11 +36,6 @@ abbrev pub Submitted : State → List ℕ → List ℕ → Result Ticket Fault �
 Submitted s address body (Ok ticket) t = Accepts s address body ticket.link ticket.number t
 Submitted s address body (Err f) t = (t ≡ s) × Why s address body f
 
--- a refused submit leaves the link's whole value as it was
-abbrev pub IfRefused : Result Ticket Fault → Type 0 → Type 0
-IfRefused (Ok ticket) P = Unit {0}
-IfRefused (Err f) P = P
-
 -- ---- the entry of a submit in a history
 abbrev pub message_in : Read → Message
 message_in (meant m) = m

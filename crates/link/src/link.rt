@@ -1,10 +1,10 @@
 // The link itself.
-ghost use Rattle.std.specs.Prelude.{◌≡◌, Ok, Err};
+ghost use Rattle.std.specs.Prelude.{◌≡◌, IfErr, OnErr};
 ghost use Rattle.life.specs.Calls.{quiet, reset as reset_entry};
 ghost use Rattle.life.specs.Link.{New, Arrives, Departs, Clears, Settled, Resets};
 ghost use Rattle.numbers.specs.Slots.{outcome_of, IfForeign};
-ghost use Rattle.link.specs.Meanings.{state as state_of, pump_entry, settle_entry, arrive_entry, depart_entry, Pumps, LivesOn, LivesOnBy, BeginsLife};
-ghost use Rattle.link.specs.Submitting.{Submitted, IfRefused, submit_entry};
+ghost use Rattle.link.specs.Meanings.{state_of, pump_entry, settle_entry, arrive_entry, depart_entry, Pumps, LivesOn, LivesOnBy, BeginsLife};
+ghost use Rattle.link.specs.Submitting.{Submitted, submit_entry};
 
 use crate::inner::Core;
 use crate::pumped::Pumped;
@@ -24,11 +24,12 @@ pub struct Link<P> {
 
 impl<P: Port> Link<P> {
     // A link over the port, with a number by which its tickets are told from those of others.
+    #[tactic(auto, using(crate::proofs::Kept::begins_life))]
     pub fn new(port: P, number: u16) -> Link<P>
         ensures port { result.port ≡ port }
         ensures number { result.core.number ≡ number }
-        ensures state { New (state_of (P.Port.meaning result.port) result.core) }
-        ensures life { BeginsLife (state_of (P.Port.meaning result.port) result.core) }
+        ensures state { New (state_of P.Port.meaning result) }
+        ensures life { BeginsLife (state_of P.Port.meaning result) }
     {
         Link {
             port,
@@ -37,7 +38,7 @@ impl<P: Port> Link<P> {
     }
 
     pub fn number(&self) -> u16
-        ensures { result ≡ (state_of (P.Port.meaning self.now.port) self.now.core).link }
+        ensures { result ≡ (state_of P.Port.meaning self.now).link }
     {
         self.core.number
     }
@@ -45,9 +46,9 @@ impl<P: Port> Link<P> {
     // Sends a command, given by its address and its body with its escapes, and answers its ticket. It refuses as reading
     // `address / digit / body / the right check` refuses, then for want of a free number, then for want of room in the port.
     pub fn submit(&mut self, address: &[u8], body: &[u8]) -> Result<Ticket, Fault>
-        ensures does { Submitted (state_of (P.Port.meaning self.old.port) self.old.core) address.now body.now result (state_of (P.Port.meaning self.new.port) self.new.core) }
-        ensures refused { IfRefused result (self.new ≡ self.old) }
-        ensures life { LivesOn (state_of (P.Port.meaning self.old.port) self.old.core) (submit_entry address.now body.now result) (state_of (P.Port.meaning self.new.port) self.new.core) }
+        ensures does { Submitted (state_of P.Port.meaning self.old) address.now body.now result (state_of P.Port.meaning self.new) }
+        ensures refused { OnErr result (self.new ≡ self.old) }
+        ensures life { LivesOn (state_of P.Port.meaning self.old) (submit_entry address.now body.now result) (state_of P.Port.meaning self.new) }
     {
         self.do_submit(address, body)
     }
@@ -55,9 +56,9 @@ impl<P: Port> Link<P> {
     // Hands out the next line that is not empty, of which at most 1,024 bytes are kept: it stands at the buffer's front.
     // Refuses a buffer of fewer than 1,024 bytes.
     pub fn pump(&mut self, buffer: &mut [u8]) -> Result<Pumped, Fault>
-        ensures does { Pumps (state_of (P.Port.meaning self.old.port) self.old.core) buffer.old result (state_of (P.Port.meaning self.new.port) self.new.core) buffer.new }
-        ensures refused { elim result [ Ok p ↦ Unit {0} | Err f ↦ (f ≡ Fault.PumpBuffer) × (self.new ≡ self.old) ] }
-        ensures life { LivesOn (state_of (P.Port.meaning self.old.port) self.old.core) (pump_entry result buffer.new) (state_of (P.Port.meaning self.new.port) self.new.core) }
+        ensures does { Pumps (state_of P.Port.meaning self.old) buffer.old result (state_of P.Port.meaning self.new) buffer.new }
+        ensures refused { IfErr result (λ f. (f ≡ Fault.PumpBuffer) × (self.new ≡ self.old)) }
+        ensures life { LivesOn (state_of P.Port.meaning self.old) (pump_entry result buffer.new) (state_of P.Port.meaning self.new) }
     {
         self.do_pump(buffer)
     }
@@ -65,41 +66,41 @@ impl<P: Port> Link<P> {
     // Spends the ticket. A number that is answered or lost becomes free, and one that is open is given up.
     // Foreign, with nothing altered: the ticket has another link number, or no ticket out holds its number here.
     pub fn settle(&mut self, ticket: Ticket) -> Outcome
-        ensures does { Settled (state_of (P.Port.meaning self.old.port) self.old.core) ticket.link ticket.number (outcome_of result) (state_of (P.Port.meaning self.new.port) self.new.core) }
+        ensures does { Settled (state_of P.Port.meaning self.old) ticket.link ticket.number (outcome_of result) (state_of P.Port.meaning self.new) }
         ensures foreign { IfForeign result (self.new ≡ self.old) }
-        ensures life { LivesOnBy ticket.link ticket.number (state_of (P.Port.meaning self.old.port) self.old.core) (settle_entry ticket.link ticket.number result) (state_of (P.Port.meaning self.new.port) self.new.core) }
+        ensures life { LivesOnBy ticket.link ticket.number (state_of P.Port.meaning self.old) (settle_entry ticket.link ticket.number result) (state_of P.Port.meaning self.new) }
     {
         self.do_settle(ticket)
     }
 
     // Hangs up the port, drops the unfinished line, ends every command, and answers how many open numbers became lost by that.
     pub fn reset(&mut self) -> usize
-        ensures does { Resets (state_of (P.Port.meaning self.old.port) self.old.core) result (state_of (P.Port.meaning self.new.port) self.new.core) }
-        ensures life { LivesOn (state_of (P.Port.meaning self.old.port) self.old.core) (reset_entry result) (state_of (P.Port.meaning self.new.port) self.new.core) }
+        ensures does { Resets (state_of P.Port.meaning self.old) result (state_of P.Port.meaning self.new) }
+        ensures life { LivesOn (state_of P.Port.meaning self.old) (reset_entry result) (state_of P.Port.meaning self.new) }
     {
         self.do_reset()
     }
 
     // Bytes from the line: the port takes as many as it has room for.
     pub fn arrive(&mut self, bytes: &[u8]) -> usize
-        ensures does { Arrives (state_of (P.Port.meaning self.old.port) self.old.core) bytes.now result (state_of (P.Port.meaning self.new.port) self.new.core) }
-        ensures life { LivesOn (state_of (P.Port.meaning self.old.port) self.old.core) (arrive_entry bytes.now result) (state_of (P.Port.meaning self.new.port) self.new.core) }
+        ensures does { Arrives (state_of P.Port.meaning self.old) bytes.now result (state_of P.Port.meaning self.new) }
+        ensures life { LivesOn (state_of P.Port.meaning self.old) (arrive_entry bytes.now result) (state_of P.Port.meaning self.new) }
     {
         self.do_arrive(bytes)
     }
 
     // Bytes to the line: the port moves them to the buffer's front.
     pub fn depart(&mut self, buffer: &mut [u8]) -> usize
-        ensures does { Departs (state_of (P.Port.meaning self.old.port) self.old.core) buffer.old buffer.new result (state_of (P.Port.meaning self.new.port) self.new.core) }
-        ensures life { LivesOn (state_of (P.Port.meaning self.old.port) self.old.core) (depart_entry result buffer.new) (state_of (P.Port.meaning self.new.port) self.new.core) }
+        ensures does { Departs (state_of P.Port.meaning self.old) buffer.old buffer.new result (state_of P.Port.meaning self.new) }
+        ensures life { LivesOn (state_of P.Port.meaning self.old) (depart_entry result buffer.new) (state_of P.Port.meaning self.new) }
     {
         self.do_depart(buffer)
     }
 
     // Whether it is clear to send.
     pub fn clear(&mut self, value: bool)
-        ensures does { Clears (state_of (P.Port.meaning self.old.port) self.old.core) value (state_of (P.Port.meaning self.new.port) self.new.core) }
-        ensures life { LivesOn (state_of (P.Port.meaning self.old.port) self.old.core) quiet (state_of (P.Port.meaning self.new.port) self.new.core) }
+        ensures does { Clears (state_of P.Port.meaning self.old) value (state_of P.Port.meaning self.new) }
+        ensures life { LivesOn (state_of P.Port.meaning self.old) quiet (state_of P.Port.meaning self.new) }
     {
         self.do_clear(value);
     }

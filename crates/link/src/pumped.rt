@@ -6,7 +6,7 @@ use line::Fault;
 use std::fmt;
 
 // What a line is to the link. The last four have the number of the command that the line answers.
-#[derive(Clone, Copy)]
+#[derive(Clone, Copy, PartialEq, Eq, Debug)]
 pub enum Kind {
     // it cannot be read
     Fault(Fault),
@@ -26,7 +26,8 @@ pub enum Kind {
     LateLast(u8),
 }
 
-#[derive(Clone, Copy)]
+// No Option, since it is shown: Display cannot be given to an Option here, and the row DRY stands beside those of the kinds.
+#[derive(Clone, Copy, PartialEq, Eq, Debug)]
 pub enum Pumped {
     // no line has ended
     Dry,

@@ -1,15 +1,16 @@
 // What a line is to the link, and what it makes of the number that it has for a mark.
 ghost use Rattle.std.specs.Prelude.{◌≡◌, true};
+ghost use Rattle.std.specs.Option.{option_copied};
 ghost use Rattle.line.specs.Forms.{answer, is_mark};
 ghost use Rattle.line.specs.Lines.{meant};
 ghost use Rattle.line.specs.Meanings.{message_of, read_of};
-ghost use Rattle.life.specs.Codec.{read_part};
+ghost use Rattle.reader.specs.Cutting.{Part, whole};
 ghost use Rattle.life.specs.Link.{Told};
 ghost use Rattle.numbers.specs.Ours.{as_answer, ours};
 ghost use Rattle.numbers.specs.Slots.{kind_of as matched_kind};
 ghost use Rattle.numbers.specs.Ten.{slots_of};
 ghost use Rattle.link.specs.Meanings.{kind_of as told_kind, messages_of, message_at};
-ghost use Rattle.link.specs.Steps.{digit_number, without_number, ToldAs};
+ghost use Rattle.link.specs.Steps.{digit_number, without_number, line_read, ToldAs};
 
 use crate::pumped::Kind;
 use line::{Fault, Message, Side, read};
@@ -35,7 +36,7 @@ fn number_in(mark: char) -> Option<u8>
     ensures { result ≡ digit_number mark }
 {
     match mark {
-        '0'..='9' => Some((mark as u32 - 48) as u8),
+        '0'..='9' => Some(mark as u8 - b'0'),
         _ => None,
     }
 }
@@ -50,7 +51,8 @@ fn kind_without_number(mark: char) -> Kind
     }
 }
 
-// The kind of a line with the number, by what it is to the command that has the number.
+// The kind of a line with the number, by what it is to the command that has the number. Kind repeats the six cases of Match, flat and
+// with their numbers, so that a caller finds in one `match` all that a line may be.
 fn kind_with_number(number: u8, matched: Match) -> Kind
     ensures { told_kind result ≡ matched_kind number matched }
 {
@@ -77,22 +79,19 @@ fn tell(message: &Message<'_>, numbers: &mut Numbers) -> Kind
     kind_with_number(number, numbers.told(number, message))
 }
 
-// Reads a line, of which the first bytes are held, and more of it came or not.
-fn read_held(held: &[u8], over: bool) -> Result<Message<'_>, Fault>
-    ensures { read_of result ≡ read_part ours (record { kept = held.now; over = over }) }
+// Reads a whole line; there is none if more of it came than is held.
+fn read_line(line: Option<&[u8]>) -> Result<Message<'_>, Fault>
+    ensures { read_of result ≡ line_read (option_copied line.entry) }
 {
-    if over {
-        return Err(Fault::TooLong);
-    }
-    read_answer(held)
+    read_answer(line.ok_or(Fault::TooLong)?)
 }
 
 // Tells such a line.
-pub fn kind_of(held: &[u8], over: bool, numbers: &mut Numbers) -> Kind
-    ensures told { ToldAs held.now over (slots_of numbers.old) (slots_of numbers.new) result }
+pub fn kind_of(line: Option<&[u8]>, numbers: &mut Numbers) -> Kind
+    ensures told { (p : Part) → whole p ≡ option_copied line.entry → ToldAs p (slots_of numbers.old) (slots_of numbers.new) result }
     ensures recent { numbers.new.recent ≡ numbers.old.recent }
 {
-    match read_held(held, over) {
+    match read_line(line) {
         Ok(message) => tell(&message, numbers),
         Err(fault) => Kind::Fault(fault),
     }
@@ -103,11 +102,5 @@ pub fn kind_of(held: &[u8], over: bool, numbers: &mut Numbers) -> Kind
 pub fn message(buffer: &[u8], length: usize) -> Option<Message<'_>>
     ensures { messages_of result ≡ message_at buffer.now length }
 {
-    if length > buffer.len() {
-        return None;
-    }
-    match read_answer(&buffer[0..length]) {
-        Ok(message) => Some(message),
-        Err(_) => None,
-    }
+    read_answer(buffer.get(..length)?).ok()
 }

@@ -1,7 +1,6 @@
 // What a new link holds.
 ghost use Rattle.std.specs.Prelude.{◌≡◌, ℕ};
 ghost use Rattle.reader.specs.Cutting.{bare};
-ghost use Rattle.reader.specs.Unfinished.{part_of};
 ghost use Rattle.life.specs.Link.{is_free};
 ghost use Rattle.numbers.specs.Ten.{slots_of};
 
@@ -12,7 +11,7 @@ use reader::Unfinished;
 impl Core {
     pub fn new(number: u16) -> Core
         ensures link { result.number ≡ number }
-        ensures unfinished { part_of result.unfinished ≡ bare }
+        ensures unfinished { result.unfinished ≡ bare }
         ensures slots { (n : ℕ) → slots_of result.numbers n ≡ is_free }
         ensures recent { result.numbers.recent ≡ 9 }
     {

@@ -1,12 +1,12 @@
 // What submit does: the command's line is put together first, so that a refusal leaves all as it was.
-ghost use Rattle.std.specs.Prelude.{◌≡◌, ◌+◌, ◌<◌, ◌≤◌, min, length, nat_le};
+ghost use Rattle.std.specs.Prelude.{◌≡◌, ◌+◌, ◌<◌, ◌≤◌, min, length, nat_le, OnErr};
 ghost use Rattle.port.specs.Port.{Written};
 ghost use Rattle.life.specs.Link.{is_open, Put};
 ghost use Rattle.numbers.specs.Slots.{pending_of};
 ghost use Rattle.numbers.specs.Ten.{slots_of};
 ghost use Rattle.request.specs.Requests.{request_read};
-ghost use Rattle.link.specs.Meanings.{state as state_of};
-ghost use Rattle.link.specs.Submitting.{Submitted, IfRefused, Lined};
+ghost use Rattle.link.specs.Meanings.{state_of};
+ghost use Rattle.link.specs.Submitting.{Submitted, Lined};
 
 use crate::link::Link;
 use crate::ticket::Ticket;
@@ -23,13 +23,9 @@ fn ready_line(address: &[u8], number: u8, body: &[u8], line: &mut [u8]) -> Resul
     requires { (1025 ≤ length line.old) × (number < 10) }
     ensures { Lined (request_read address.now (48 + number) body.now) (48 + number) line.new result }
 {
-    match prepare(address, number, body, line) {
-        Ok(prepared) => {
-            line[prepared.length] = b'\r';
-            Ok(prepared)
-        }
-        Err(fault) => Err(fault),
-    }
+    let prepared = prepare(address, number, body, line)?;
+    line[prepared.length] = b'\r';
+    Ok(prepared)
 }
 
 // Whether a line of so many bytes, and its end, have room.
@@ -53,25 +49,20 @@ impl<P: Port> Link<P> {
     }
 
     pub(crate) fn do_submit(&mut self, address: &[u8], body: &[u8]) -> Result<Ticket, Fault>
-        ensures does { Submitted (state_of (P.Port.meaning self.old.port) self.old.core) address.now body.now result (state_of (P.Port.meaning self.new.port) self.new.core) }
-        ensures refused { IfRefused result (self.new ≡ self.old) }
+        ensures does { Submitted (state_of P.Port.meaning self.old) address.now body.now result (state_of P.Port.meaning self.new) }
+        ensures refused { OnErr result (self.new ≡ self.old) }
     {
         let mut line = [0u8; LINE_ROOM];
         let Some(number) = self.core.numbers.next_free() else {
-            return match ready_line(address, 0, body, &mut line) {
-                Ok(_) => Err(Fault::NoNumber),
-                Err(fault) => Err(fault),
-            };
+            ready_line(address, 0, body, &mut line)?;
+            return Err(Fault::NoNumber);
         };
-        let prepared = match ready_line(address, number, body, &mut line) {
-            Ok(prepared) => prepared,
-            Err(fault) => return Err(fault),
-        };
+        let prepared = ready_line(address, number, body, &mut line)?;
         let (room, _) = self.port.room();
         if !has_room(prepared.length, room) {
             return Err(Fault::NoRoom);
         }
-        self.send(number, &line[0..prepared.length + 1], prepared.pending);
+        self.send(number, &line[..=prepared.length], prepared.pending);
         Ok(Ticket {
             link: self.core.number,
             number,
