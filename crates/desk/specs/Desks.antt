@@ -4,7 +4,8 @@ use Rattle.escape.specs.Tokens.{resolved}
 use Rattle.escape.specs.Resolving.{written}
 use Rattle.line.specs.declared.fault.Fault.{Fault}
 use Rattle.life.specs.Link.{State, New, Arrives, Departs, Clears, Settled, Resets}
-use Rattle.link.specs.Meanings.{Pumps}
+use Rattle.port.specs.Port.{Meaning}
+use Rattle.link.specs.Meanings.{state_of, Pumps}
 use Rattle.link.specs.Submitting.{Submitted}
 use Rattle.link.specs.declared.pumped.Pumped.{Pumped}
 use Rattle.link.specs.declared.ticket.Ticket.{Ticket}
@@ -12,6 +13,7 @@ use Rattle.numbers.specs.Slots.{outcome_of}
 use Rattle.numbers.specs.declared.slot.Outcome.{Outcome}
 use Rattle.script.specs.Script.{submit, pump, settle, settle_other, reset, arrive, depart, clear, unknown}
 use Rattle.script.specs.Script.{Call as Asked}
+use Rattle.desk.specs.declared.desk.Desk.{Desk}
 use Rattle.desk.specs.declared.row.Row.{Row}
 use Rattle.desk.specs.declared.row.Row.TheVariants.{Ticket as TicketRow, Refused, Pumped as PumpedRow, Settled as SettledRow, NoTicket, Reset, Arrived, Departed, Clear, Unknown}
 
@@ -65,3 +67,11 @@ pub data Obeyed (s t : State) (held left : Tickets) (old new : List ℕ) : Asked
       → Obeyed s t held left old new (depart n) (Departed k)
   cleared : {value : Bool} → Clears s value t → left ≡ held → new ≡ old → Obeyed s t held left old new (clear value) (Clear value)
   not_known : t ≡ s → left ≡ held → new ≡ old → Obeyed s t held left old new unknown Unknown
+
+-- the desk was old and is new, by what the port of its link means; the buffer was `was` and is `now`
+abbrev pub ObeyedBy : {P : Type 0} → (P → Meaning) → (old new : Desk P) → (was now : List ℕ) → Asked → Row → Type 0
+ObeyedBy meaning old new was now asked row = Obeyed (state_of meaning old.link) (state_of meaning new.link) old.tickets new.tickets was now asked row
+
+-- a call that takes no buffer: any buffer stays as it is
+abbrev pub ObeyedApart : {P : Type 0} → (P → Meaning) → (old new : Desk P) → Asked → Row → Type 0
+ObeyedApart meaning old new asked row = (b : List ℕ) → ObeyedBy meaning old new b b asked row

@@ -1,9 +1,9 @@
 // A desk: a link, and the tickets that the script holds of it.
-ghost use Rattle.std.specs.Prelude.{◌≡◌, ℕ, ◌<◌, List, replicate, Some, None, slice_index_or, slice_set};
-ghost use Rattle.link.specs.Meanings.{state as state_of};
+ghost use Rattle.std.specs.Prelude.{◌≡◌, ◌<◌, replicate, Some, None, slice_index_or, slice_set};
+ghost use Rattle.link.specs.Meanings.{state_of};
 ghost use Rattle.script.specs.Script.{submit, pump, settle, settle_other, arrive, depart};
 ghost use Rattle.script.specs.Meanings.{asked};
-ghost use Rattle.desk.specs.Desks.{SettledIf, SettledAll, Obeyed};
+ghost use Rattle.desk.specs.Desks.{SettledIf, SettledAll, ObeyedBy, ObeyedApart};
 
 use crate::row::Row;
 use escape::resolve;
@@ -24,12 +24,9 @@ const OTHER_LINK: u16 = 2;
 
 // Settles the ticket, if there is one.
 fn settle_held<P: Port>(link: &mut Link<P>, held: Option<Ticket>) -> Option<Outcome>
-    ensures { SettledIf (state_of (P.Port.meaning link.old.port) link.old.core) held result (state_of (P.Port.meaning link.new.port) link.new.core) }
+    ensures { SettledIf (state_of P.Port.meaning link.old) held result (state_of P.Port.meaning link.new) }
 {
-    match held {
-        Some(ticket) => Some(link.settle(ticket)),
-        None => None,
-    }
+    Some(link.settle(held?))
 }
 
 impl<P: Port> Desk<P> {
@@ -39,14 +36,14 @@ impl<P: Port> Desk<P> {
     {
         Desk {
             link,
-            tickets: [None, None, None, None, None, None, None, None, None, None],
+            tickets: [const { None }; 10],
         }
     }
 
     // Holds the ticket for its number. One that was held for it would be settled, and the link gives no number whose ticket is out.
     fn hold(&mut self, n: usize, ticket: Ticket) -> Option<Outcome>
         requires { n < 10 }
-        ensures before { SettledIf (state_of (P.Port.meaning self.old.link.port) self.old.link.core) (slice_index_or self.old.tickets n None) result (state_of (P.Port.meaning self.new.link.port) self.new.link.core) }
+        ensures before { SettledIf (state_of P.Port.meaning self.old.link) (slice_index_or self.old.tickets n None) result (state_of P.Port.meaning self.new.link) }
         ensures tickets { self.new.tickets ≡ slice_set self.old.tickets n (Some ticket) }
     {
         let before = self.tickets[n].replace(ticket);
@@ -54,12 +51,12 @@ impl<P: Port> Desk<P> {
     }
 
     fn submit(&mut self, address: &[u8], body: &[u8]) -> Row
-        ensures { (b : List ℕ) → Obeyed (state_of (P.Port.meaning self.old.link.port) self.old.link.core) (state_of (P.Port.meaning self.new.link.port) self.new.link.core) self.old.tickets self.new.tickets b b (submit address.now body.now) result }
+        ensures { ObeyedApart P.Port.meaning self.old self.new (submit address.now body.now) result }
     {
         match self.link.submit(address, body) {
             Ok(ticket) => {
                 let n = ticket.number();
-                let _ = self.hold(n as usize, ticket);
+                let _ = self.hold(usize::from(n), ticket);
                 Row::Ticket(n)
             }
             Err(fault) => Row::Refused(fault),
@@ -67,24 +64,24 @@ impl<P: Port> Desk<P> {
     }
 
     fn pump(&mut self, n: usize, buffer: &mut [u8]) -> Row
-        ensures { Obeyed (state_of (P.Port.meaning self.old.link.port) self.old.link.core) (state_of (P.Port.meaning self.new.link.port) self.new.link.core) self.old.tickets self.new.tickets buffer.old buffer.new (pump n) result }
+        ensures { ObeyedBy P.Port.meaning self.old self.new buffer.old buffer.new (pump n) result }
     {
         let end = n.min(buffer.len());
-        match self.link.pump(&mut buffer[0..end]) {
+        match self.link.pump(&mut buffer[..end]) {
             Ok(pumped) => Row::Pumped(pumped),
             Err(fault) => Row::Refused(fault),
         }
     }
 
     fn depart(&mut self, n: usize, buffer: &mut [u8]) -> Row
-        ensures { Obeyed (state_of (P.Port.meaning self.old.link.port) self.old.link.core) (state_of (P.Port.meaning self.new.link.port) self.new.link.core) self.old.tickets self.new.tickets buffer.old buffer.new (depart n) result }
+        ensures { ObeyedBy P.Port.meaning self.old self.new buffer.old buffer.new (depart n) result }
     {
         let end = n.min(buffer.len());
-        Row::Departed(self.link.depart(&mut buffer[0..end]))
+        Row::Departed(self.link.depart(&mut buffer[..end]))
     }
 
     fn settle(&mut self, n: usize) -> Row
-        ensures { (b : List ℕ) → Obeyed (state_of (P.Port.meaning self.old.link.port) self.old.link.core) (state_of (P.Port.meaning self.new.link.port) self.new.link.core) self.old.tickets self.new.tickets b b (settle n) result }
+        ensures { ObeyedApart P.Port.meaning self.old self.new (settle n) result }
     {
         if n >= 10 {
             return Row::NoTicket;
@@ -98,7 +95,7 @@ impl<P: Port> Desk<P> {
 
     // A ticket of another link, that is made for it.
     fn settle_other(&mut self) -> Row
-        ensures { (b : List ℕ) → Obeyed (state_of (P.Port.meaning self.old.link.port) self.old.link.core) (state_of (P.Port.meaning self.new.link.port) self.new.link.core) self.old.tickets self.new.tickets b b (settle_other) result }
+        ensures { ObeyedApart P.Port.meaning self.old self.new settle_other result }
     {
         let mut other = Link::new(Serial::new(), OTHER_LINK);
         match other.submit(b"01", b"PLAY:") {
@@ -108,22 +105,22 @@ impl<P: Port> Desk<P> {
     }
 
     fn arrive(&mut self, text: &[u8], buffer: &mut [u8]) -> Row
-        ensures { Obeyed (state_of (P.Port.meaning self.old.link.port) self.old.link.core) (state_of (P.Port.meaning self.new.link.port) self.new.link.core) self.old.tickets self.new.tickets buffer.old buffer.new (arrive text.now) result }
+        ensures { ObeyedBy P.Port.meaning self.old self.new buffer.old buffer.new (arrive text.now) result }
     {
         match resolve(text, buffer) {
-            Some(n) => Row::Arrived(self.link.arrive(&buffer[0..n])),
+            Some(n) => Row::Arrived(self.link.arrive(&buffer[..n])),
             None => Row::Unknown,
         }
     }
 
     // Does what is asked for, and answers its row.
     pub fn obey(&mut self, call: Call<'_>, buffer: &mut [u8]) -> Row
-        ensures { Obeyed (state_of (P.Port.meaning self.old.link.port) self.old.link.core) (state_of (P.Port.meaning self.new.link.port) self.new.link.core) self.old.tickets self.new.tickets buffer.old buffer.new (asked call.entry) result }
+        ensures { ObeyedBy P.Port.meaning self.old self.new buffer.old buffer.new (asked call.entry) result }
     {
         match call {
             Call::Submit { address, body } => self.submit(address, body),
             Call::Pump(n) => self.pump(n, buffer),
-            Call::Settle(n) => self.settle(n as usize),
+            Call::Settle(n) => self.settle(usize::from(n)),
             Call::SettleOther => self.settle_other(),
             Call::Reset => Row::Reset(self.link.reset()),
             Call::Arrive(text) => self.arrive(text, buffer),
@@ -135,12 +132,11 @@ impl<P: Port> Desk<P> {
             Call::Unknown => Row::Unknown,
         }
     }
-}
 
-impl<P: Port> Desk<P> {
-    // Settles all that is held, and hands the link back.
+    // Settles all that is held, and hands the link back. The array is taken apart, since a loop over it would let its iterator go, and
+    // with that the tickets that it may still hold.
     pub fn close(self) -> Link<P>
-        ensures { SettledAll (state_of (P.Port.meaning self.link.port) self.link.core) self.tickets (state_of (P.Port.meaning result.port) result.core) }
+        ensures { SettledAll (state_of P.Port.meaning self.link) self.tickets (state_of P.Port.meaning result) }
     {
         let Desk { mut link, tickets } = self;
         let [t0, t1, t2, t3, t4, t5, t6, t7, t8, t9] = tickets;

@@ -98,8 +98,7 @@ impl fmt::Display for Cleared {
 fn front(buffer: &[u8], count: usize) -> &[u8]
     ensures { result.now ≡ take count buffer.now }
 {
-    let end = count.min(buffer.len());
-    &buffer[0..end]
+    buffer.get(..count).unwrap_or(buffer)
 }
 
 impl<'a> fmt::Display for Told<'a> {
