@@ -28,9 +28,7 @@ fn answer(n: u8) -> [u8; 13] {
 
 // Sends a command whose answer comes at once or not at all, and settles its ticket: its number, and how it ended.
 fn command(link: &mut Link<Serial>, is_answered: bool) -> Option<(u8, Outcome)> {
-    let Ok(ticket) = link.submit(b"01", b"PLAY:") else {
-        return None;
-    };
+    let ticket = link.submit(b"01", b"PLAY:").ok()?;
     let number = ticket.number();
     let _ = link.depart(&mut [0; 64]);
     if is_answered {
@@ -45,12 +43,11 @@ fn command(link: &mut Link<Serial>, is_answered: bool) -> Option<(u8, Outcome)> 
 fn all_day(rt: HostRuntime) {
     let mut link = Link::new(Serial::new(), 7);
     assert_eq!(rt; command(&mut link, false), Some((0, Outcome::GivenUp)));
-    for i in 0..200u16 {
-        let number = (i % 9 + 1) as u8;
+    for number in (1..10u8).cycle().take(200) {
         assert_eq!(rt; command(&mut link, true), Some((number, Outcome::Answered)));
     }
-    assert!(rt; link.arrive(&answer(0)) == 13);
-    assert!(rt; matches!(next_kind(&mut link), Some(Kind::LateLast(0))));
+    assert_eq!(rt; link.arrive(&answer(0)), 13);
+    assert_eq!(rt; next_kind(&mut link), Some(Kind::LateLast(0)));
     for number in 3..10u8 {
         assert_eq!(rt; command(&mut link, true), Some((number, Outcome::Answered)));
     }
@@ -61,22 +58,16 @@ fn all_day(rt: HostRuntime) {
 #[test]
 fn empty_listing(rt: HostRuntime) -> Result<(), Fail> {
     let mut link = Link::new(Serial::new(), 7);
-    let Ok(ticket) = link.submit(b"01", b"BROWSE:x:") else {
-        assert!(rt; false);
-        return Ok(());
-    };
+    let ticket = link.submit(b"01", b"BROWSE:x:")?;
     let came = link.arrive(EMPTY_LISTING);
     let kind = next_kind(&mut link);
     assert_eq!(rt; link.settle(ticket), Outcome::Answered);
-    assert!(rt; came == EMPTY_LISTING.len() && matches!(kind, Some(Kind::Last(0))));
+    assert_eq!(rt; (came, kind), (EMPTY_LISTING.len(), Some(Kind::Last(0))));
     let mut link = Link::new(Serial::new(), 7);
-    let Ok(ticket) = link.submit(b"01", b"BROWSE:x:") else {
-        assert!(rt; false);
-        return Ok(());
-    };
+    let ticket = link.submit(b"01", b"BROWSE:x:")?;
     assert_eq!(rt; link.settle(ticket), Outcome::GivenUp);
-    assert!(rt; link.arrive(EMPTY_LISTING) == EMPTY_LISTING.len());
-    assert!(rt; matches!(next_kind(&mut link), Some(Kind::LateLast(0))));
+    assert_eq!(rt; link.arrive(EMPTY_LISTING), EMPTY_LISTING.len());
+    assert_eq!(rt; next_kind(&mut link), Some(Kind::LateLast(0)));
     Ok(())
 }
 
@@ -84,20 +75,16 @@ fn empty_listing(rt: HostRuntime) -> Result<(), Fail> {
 #[test]
 fn strays(rt: HostRuntime) -> Result<(), Fail> {
     let mut link = Link::new(Serial::new(), 7);
-    let Ok(ticket) = link.submit(b"01", b"PLAY:") else {
-        assert!(rt; false);
-        return Ok(());
-    };
+    let ticket = link.submit(b"01", b"PLAY:")?;
     let _ = link.arrive(b"??/0/000:/17\r01.01/0/000:/31\r");
-    let first = next_kind(&mut link);
-    let second = next_kind(&mut link);
+    let others = [next_kind(&mut link), next_kind(&mut link)];
     let _ = link.arrive(&answer(0));
-    let third = next_kind(&mut link);
+    let last = next_kind(&mut link);
     let _ = link.arrive(&answer(0));
-    let fourth = next_kind(&mut link);
+    let again = next_kind(&mut link);
     assert_eq!(rt; link.settle(ticket), Outcome::Answered);
-    assert!(rt; matches!((first, second), (Some(Kind::Stray), Some(Kind::Stray))));
-    assert!(rt; matches!((third, fourth), (Some(Kind::Last(0)), Some(Kind::Stray))));
+    assert_eq!(rt; others, [Some(Kind::Stray), Some(Kind::Stray)]);
+    assert_eq!(rt; [last, again], [Some(Kind::Last(0)), Some(Kind::Stray)]);
     Ok(())
 }
 
@@ -105,16 +92,14 @@ fn strays(rt: HostRuntime) -> Result<(), Fail> {
 #[test]
 fn reset_in_a_listing(rt: HostRuntime) -> Result<(), Fail> {
     let mut link = Link::new(Serial::new(), 7);
-    let Ok(ticket) = link.submit(b"01", b"BROWSE:x:") else {
-        assert!(rt; false);
-        return Ok(());
-    };
+    let ticket = link.submit(b"01", b"BROWSE:x:")?;
     let _ = link.arrive(b"01/0/000:BROWSE_RESULTS_OVERVIEW:7:Titles:1:1:/09\r01/0/000:BROWSE_RESU");
     let kind = next_kind(&mut link);
     let lost = link.reset();
     let _ = link.arrive(b"01/0/000:BROWSE_RESULT:1:4711:Heat:/00\r");
     let after = next_kind(&mut link);
     assert_eq!(rt; link.settle(ticket), Outcome::Lost);
-    assert!(rt; lost == 1 && matches!((kind, after), (Some(Kind::More(0)), Some(Kind::Stray))));
+    assert_eq!(rt; lost, 1);
+    assert_eq!(rt; [kind, after], [Some(Kind::More(0)), Some(Kind::Stray)]);
     Ok(())
 }

@@ -9,41 +9,36 @@ use std::test::Fail;
 fn waits_for_clear(rt: HostRuntime) -> Result<(), Fail> {
     let mut link = Link::new(LineControl::new(Serial::new()), 7);
     link.clear(false);
-    let Ok(ticket) = link.submit(b"01", b"PLAY:") else {
-        assert!(rt; false);
-        return Ok(());
-    };
+    let ticket = link.submit(b"01", b"PLAY:")?;
     let mut sink = [b'.'; 16];
     let held_back = link.depart(&mut sink);
     link.clear(true);
     let departed = link.depart(&mut sink);
     assert_eq!(rt; link.settle(ticket), Outcome::GivenUp);
-    assert!(rt; held_back == 0 && departed == 14);
-    assert!(rt; sink == *b"01/0/PLAY:/54\r..");
+    assert_eq!(rt; (held_back, departed), (0, 14));
+    assert_eq!(rt; sink, *b"01/0/PLAY:/54\r..");
     Ok(())
 }
 
 // The number by which a command is refused; one that is accepted is given up at once.
-fn refusal(link: &mut Link<Serial>) -> Option<u8> {
-    match link.submit(b"01", b"PLAY:") {
-        Ok(ticket) => {
-            let _ = link.settle(ticket);
-            None
-        }
-        Err(fault) => Some(fault.number()),
-    }
+fn send(link: &mut Link<Serial>) -> Result<(), u8> {
+    let ticket = link
+        .submit(b"01", b"PLAY:")
+        .map_err(|fault| fault.number())?;
+    let _ = link.settle(ticket);
+    Ok(())
 }
 
 // A port with room for the line and not for its end takes nothing of it; with one place more it takes all.
 #[test]
 fn too_full(rt: HostRuntime) {
     let mut serial = Serial::new();
-    assert!(rt; serial.write(&[b' '; 2035]) == 2035);
+    assert_eq!(rt; serial.write(&[b' '; 2035]), 2035);
     let mut link = Link::new(serial, 7);
-    assert_eq!(rt; refusal(&mut link), Some(13));
-    assert!(rt; link.depart(&mut [0]) == 1);
-    assert_eq!(rt; refusal(&mut link), None);
-    assert_eq!(rt; refusal(&mut link), Some(13));
+    assert_eq!(rt; send(&mut link), Err(13));
+    assert_eq!(rt; link.depart(&mut [0]), 1);
+    assert_eq!(rt; send(&mut link), Ok(()));
+    assert_eq!(rt; send(&mut link), Err(13));
 }
 
 // Ten commands that nobody answers take all the numbers; a reset gives them back.
@@ -51,11 +46,11 @@ fn too_full(rt: HostRuntime) {
 fn no_number_left(rt: HostRuntime) {
     let mut link = Link::new(Serial::new(), 7);
     for _ in 0..10 {
-        assert_eq!(rt; refusal(&mut link), None);
+        assert_eq!(rt; send(&mut link), Ok(()));
     }
-    assert_eq!(rt; refusal(&mut link), Some(12));
-    assert!(rt; link.reset() == 0);
-    assert_eq!(rt; refusal(&mut link), None);
+    assert_eq!(rt; send(&mut link), Err(12));
+    assert_eq!(rt; link.reset(), 0);
+    assert_eq!(rt; send(&mut link), Ok(()));
 }
 
 // A ticket is foreign on a link of another number, and its own number stays held.
@@ -63,11 +58,8 @@ fn no_number_left(rt: HostRuntime) {
 fn foreign(rt: HostRuntime) -> Result<(), Fail> {
     let mut first = Link::new(Serial::new(), 1);
     let mut second = Link::new(Serial::new(), 2);
-    let Ok(ticket) = first.submit(b"01", b"PLAY:") else {
-        assert!(rt; false);
-        return Ok(());
-    };
+    let ticket = first.submit(b"01", b"PLAY:")?;
     assert_eq!(rt; second.settle(ticket), Outcome::Foreign);
-    assert!(rt; first.reset() == 1 && second.reset() == 0);
+    assert_eq!(rt; (first.reset(), second.reset()), (1, 0));
     Ok(())
 }
