@@ -5,7 +5,7 @@ use Rattle.std.proofs.lemmas.List.{drop_more, drop_all, take_at}
 use Rattle.std.proofs.lemmas.Bool.{leb-true, leb-false, ne_eqb, lt-leb}
 use Rattle.escape.specs.Tokens.{digit}
 use Rattle.escape.specs.Resolving.{fitting, written}
-use Rattle.record.specs.Numbers.{spelled_on, numeral, at_most, counted}
+use Rattle.numeral.specs.Numbers.{spelled_on, numeral, at_most, counted}
 
 -- fewer than five digits spell a number below 10,000
 pub few : (i : ℕ) → i < 5 → 10 ^ i ≤ 10000

@@ -1,5 +1,5 @@
 -- Numbers in digits.
-use Rattle.std.specs.Prelude.{ℕ, zero, suc, ◌+◌, ◌-◌, ◌*◌, ◌/◌, ◌%◌, ◌^◌, cond, List, [], ◌∷◌, length, Some, None, Option, ◌==◌, nat_le}
+use Rattle.std.specs.Prelude.{ℕ, zero, suc, ◌+◌, ◌-◌, ◌*◌, ◌/◌, ◌%◌, ◌^◌, ◌<◌, cond, List, [], ◌∷◌, length, Some, None, Option, ◌==◌, nat_le}
 use Rattle.escape.specs.Tokens.{digit}
 
 -- the number that digits go on to spell, when those before them spell n
@@ -18,6 +18,16 @@ at_most most (Some n) = cond (nat_le n most) (Some n) None
 -- a count: 1 to 5 digits, at most 65,535
 abbrev pub counted : List ℕ → Option ℕ
 counted s = cond (nat_le 1 (length s)) (cond (nat_le (length s) 5) (at_most 65535 (spelled_on 0 s)) None) None
+
+-- a number that is read is below the limit
+abbrev pub Below : ℕ → Option ℕ → Type 0
+Below limit None = Unit {0}
+Below limit (Some n) = n < limit
+
+-- ---- what is resolved into a buffer of a few bytes
+-- the bytes, if there is room for them
+abbrev pub if_fits : List ℕ → ℕ → Option (List ℕ)
+if_fits bs room = cond (nat_le (length bs) room) (Some bs) None
 
 -- ---- how numbers are written
 -- the last digits of a number

@@ -1,6 +1,6 @@
 use Rattle.std.proofs.Common.{◌≡◌, ◌^◌, ◌<◌, drop}
-use Rattle.record.specs.Numbers.{spelled_on}
-use Rattle.record.proofs.number.value_of.Given as goal
+use Rattle.numeral.specs.Numbers.{spelled_on}
+use Rattle.numeral.proofs.reading.value_of.Given as goal
 
 -- what is left gives the number
 abbrev pub invariant-loop-d : goal.invariant-loop-d
