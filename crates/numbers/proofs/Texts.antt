@@ -1,33 +1,15 @@
 -- Comparing bytes one by one, and with their escapes resolved into a buffer.
-use Rattle.std.proofs.Common.{◌≡◌, ℕ, ◌+◌, ◌-◌, ◌<◌, ◌≤◌, Bool, true, false, cond, eqb, leb, ◌⊎◌, List, [], ◌∷◌, length, get_or, take, drop, Some, None, sym, refl, ap, ◌∙◌, inl, inr, arith}
-use Rattle.std.proofs.lemmas.List.{drop_more, drop_all, take_at}
+use Rattle.std.proofs.Common.{◌≡◌, ℕ, ◌-◌, ◌<◌, ◌≤◌, Bool, true, false, leb, ◌⊎◌, List, length, take, drop, Some, None, sym, refl, ap, ◌∙◌, inl, inr, arith}
+use Rattle.std.specs.Prelude.{nat_eq}
+use Rattle.std.specs.Cmp.Lexicographic.{unequal}
+use Rattle.std.proofs.lemmas.List.{take_at}
 use Rattle.std.proofs.lemmas.Bool.{cases_lt, lt-leb, le-leb}
 use Rattle.escape.specs.Resolving.{fitting, written}
 use Rattle.numbers.specs.Browse.{same_bytes}
 use Rattle.numbers.specs.Steps.{if_fits}
 
 pub other_length : (a b : List ℕ) → (length a ≡ length b → ⊥) → false ≡ same_bytes a b
-other_length [] [] ne = absurd (ne refl)
-other_length [] (y ∷ b) ne = refl
-other_length (x ∷ a) [] ne = refl
-other_length (x ∷ a) (y ∷ b) ne = go (eqb x y) (other_length a b (λ e. ne (omega arith)))
-  where
-    go : (v : Bool) → false ≡ same_bytes a b → false ≡ cond v (same_bytes a b) false
-    go true rest = rest
-    go false rest = refl
-
-module _ (a b : List ℕ) (i : ℕ) (e : same_bytes a b ≡ same_bytes (drop i a) (drop i b)) where
-  same_at : i < length a → i < length b → same_bytes a b ≡ cond (eqb (get_or a i 0) (get_or b i 0)) (same_bytes (drop (i + 1) a) (drop (i + 1) b)) false
-  same_at h k = e ∙ rw (drop_more a i 0 h, drop_more b i 0 k)
-
-  pub same_more : i < length a → i < length b → eqb (get_or a i 0) (get_or b i 0) ≡ true → same_bytes a b ≡ same_bytes (drop (i + 1) a) (drop (i + 1) b)
-  same_more h k p = same_at h k ∙ ap (λ (v : Bool). cond v (same_bytes (drop (i + 1) a) (drop (i + 1) b)) false) p
-
-  pub same_stop : i < length a → i < length b → eqb (get_or a i 0) (get_or b i 0) ≡ false → false ≡ same_bytes a b
-  same_stop h k p = sym (same_at h k ∙ ap (λ (v : Bool). cond v (same_bytes (drop (i + 1) a) (drop (i + 1) b)) false) p)
-
-  pub same_all : length a ≤ i → length b ≤ i → true ≡ same_bytes a b
-  same_all h k = sym (e ∙ rw (drop_all i a h, drop_all i b k))
+other_length a b ne = sym (unequal nat_eq a b ne)
 
 -- ---- bytes at the front of a buffer, where they were written with room enough
 pub none_fits : (bs : List ℕ) (room : ℕ) → None ≡ fitting bs room → room < length bs

@@ -13,15 +13,7 @@ const LONGEST: usize = 23;
 pub fn same_bytes(a: &[u8], b: &[u8]) -> bool
     ensures { result ≡ same_bytes a.now b.now }
 {
-    if a.len() != b.len() {
-        return false;
-    }
-    for (i, x) in a.iter().enumerate() {
-        if *x != b[i] {
-            return false;
-        }
-    }
-    true
+    a == b
 }
 
 // The field with its escapes resolved, at the front of the buffer, if it has room.
