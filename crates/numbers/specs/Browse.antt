@@ -1,14 +1,11 @@
 -- Which messages are a BROWSE command, an answer of status 000, an overview and a result line. The fields of a message have their
 -- escapes resolved; of an answer the first is the status and the second the name.
-use Rattle.std.specs.Prelude.{ℕ, Bool, true, false, cond, List, Some, None, codes, Option, nat_eq}
+use Rattle.std.specs.Prelude.{ℕ, Bool, true, false, cond, List, Some, None, codes, Option}
 use Rattle.std.specs.List.{slice_get}
-use Rattle.std.specs.Cmp.Lexicographic.{pointwise}
 use Rattle.numeral.specs.Numbers.{counted}
 use Rattle.line.specs.Forms.{Side, command, answer}
 use Rattle.line.specs.Lines.{Message}
-
-abbrev pub same_bytes : List ℕ → List ℕ → Bool
-same_bytes = pointwise nat_eq
+use Rattle.line.specs.Fields.{is_text}
 
 -- a number: 1 to 5 digits, at most 65,535; leading zeros are allowed
 abbrev pub number : List ℕ → Option ℕ
@@ -18,11 +15,6 @@ number = counted
 abbrev pub is_command : Side → Bool
 is_command command = true
 is_command answer = false
-
--- the field is there, and is the text
-abbrev pub is_text : List ℕ → Option (List ℕ) → Bool
-is_text text None = false
-is_text text (Some f) = same_bytes f text
 
 -- the field is there, and is a number
 abbrev pub number_in : Option (List ℕ) → Option ℕ

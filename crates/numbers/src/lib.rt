@@ -11,14 +11,12 @@ mod slot;
 mod ten;
 #[cfg(test)]
 mod tests;
-mod text;
 
 pub use address::{CommandAddress, Device};
 pub use listing::{Listing, Step, is_browse, next_step, overview, result};
 pub use numeral::field_count as number_of;
 pub use slot::{Match, Outcome, Pending, Slot};
 pub use ten::Numbers;
-pub use text::same_bytes;
 
 // Lines are read and written as the promises need it.
 pub fn codec_is_lawful()

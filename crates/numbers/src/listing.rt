@@ -1,14 +1,14 @@
 // What comes next in the answer to a command: the rules of overviews and result lines.
-ghost use Rattle.std.specs.Prelude.{◌≡◌, ◌<◌, ◌≤◌, length};
+ghost use Rattle.std.specs.Prelude.{◌≡◌, ◌<◌};
 ghost use Rattle.std.specs.List.{slice_get};
 ghost use Rattle.line.specs.Meanings.{message_of};
 ghost use Rattle.life.specs.Answers.{next};
-ghost use Rattle.numbers.specs.Browse.{is_browse, is_text, number_in, okay as is_okay, name_in, overview as overview_in, result as result_in};
+ghost use Rattle.line.specs.Fields.{is_text};
+ghost use Rattle.numbers.specs.Browse.{is_browse, number_in, okay as is_okay, name_in, overview as overview_in, result as result_in};
 ghost use Rattle.numbers.specs.Ours.{ours};
 ghost use Rattle.numbers.specs.Meanings.{place_of, step_of, first_step as step_at_start, result_step as step_within};
 
-use crate::text::{is_text, same_bytes};
-use line::Message;
+use line::{Message, Side};
 use numeral::field_count;
 
 // How far a listing is: its overview said `total` result lines, and `done` of them came.
@@ -30,31 +30,14 @@ pub enum Step {
 fn okay(message: &Message<'_>) -> bool
     ensures { result ≡ is_okay (message_of message.now) }
 {
-    match message.raw_field(0) {
-        Some(status) => same_bytes(status, b"000"),
-        None => false,
-    }
+    message.field_is(0, b"000")
 }
 
 // Whether the message is a command named BROWSE.
 pub fn is_browse(message: &Message<'_>) -> bool
     ensures { result ≡ is_browse (message_of message.now) }
 {
-    match (message, message.raw_field(0)) {
-        (Message::Command { .. }, Some(name)) => same_bytes(name, b"BROWSE"),
-        _ => false,
-    }
-}
-
-// Whether a field behind the first is there, and is the text.
-fn field_is(message: &Message<'_>, index: usize, text: &[u8]) -> bool
-    requires { (0 < index) × (length text.now ≤ 23) }
-    ensures { result ≡ is_text text.now (slice_get (message_of message.now).fields index) }
-{
-    match message.raw_field(index) {
-        Some(field) => is_text(field, text),
-        None => false,
-    }
+    message.side() == Side::Command && message.field_is(0, b"BROWSE")
 }
 
 // The number that a field behind the first is.
@@ -67,10 +50,9 @@ fn number_at(message: &Message<'_>, index: usize) -> Option<u16>
 
 // Whether the message has this name, and at least three fields behind it.
 fn is_named(message: &Message<'_>, name: &[u8]) -> bool
-    requires { length name.now ≤ 23 }
     ensures { result ≡ is_text name.now (name_in (message_of message.now).fields) }
 {
-    message.raw_field(4).is_some() && field_is(message, 1, name)
+    message.raw_field(4).is_some() && message.field_is(1, name)
 }
 
 // Of an overview, how many result lines follow it.

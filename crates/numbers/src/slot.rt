@@ -1,14 +1,14 @@
 // One of the ten numbers: how it stands, and what each call makes of it.
 ghost use Rattle.std.specs.Prelude.{◌≡◌, ℕ, Some};
 ghost use Rattle.std.specs.Option.{option_map};
-ghost use Rattle.line.specs.Meanings.{message_of, placed};
+ghost use Rattle.line.specs.Meanings.{message_of};
 ghost use Rattle.life.specs.Link.{advanced, after_reset, one_if_open};
 ghost use Rattle.numbers.specs.Slots.{begins, slot_of, pending_of, outcome_of, outcome_name, IfForeign, kind_of, settles, tells, tells_pending, further, stepped, is_free_slot};
 ghost use Rattle.numbers.specs.Meanings.{place_of};
 
 use crate::address::CommandAddress;
 use crate::listing::{Listing, Step, is_browse, next_step};
-use line::{Address, Message};
+use line::Message;
 use std::fmt;
 
 // A command whose answer is not finished.
@@ -63,22 +63,12 @@ pub enum Match {
     LateLast,
 }
 
-fn address_in<'a>(message: &Message<'a>) -> Address<'a>
-    ensures { placed result ≡ (message_of message.now).address }
-{
-    match message {
-        Message::Answer { address, .. }
-        | Message::Event { address, .. }
-        | Message::Command { address, .. } => *address,
-    }
-}
-
 impl Pending {
     // The command just sent; none if its device has not as many bytes as a command's has.
     pub fn begun(message: &Message<'_>) -> Option<Pending>
         ensures { option_map pending_of result ≡ begins (message_of message.now) }
     {
-        let address = address_in(message).try_into().ok()?;
+        let address = message.address().try_into().ok()?;
         Some(Pending {
             address,
             browse: is_browse(message),
@@ -90,7 +80,7 @@ impl Pending {
     fn step(&self, message: &Message<'_>) -> Option<Step>
         ensures { stepped result ≡ tells_pending (pending_of self.now) (message_of message.now) }
     {
-        if self.address.is_that_of(&address_in(message)) {
+        if self.address.is_that_of(&message.address()) {
             Some(next_step(self.listing, self.browse, message))
         } else {
             None
