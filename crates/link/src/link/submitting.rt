@@ -13,7 +13,7 @@ use crate::ticket::Ticket;
 use line::Fault;
 use numbers::Pending;
 use port::Port;
-use request::{Prepared, prepare};
+use request::{Prepared, Request};
 
 // Room for the longest line and its end.
 const LINE_ROOM: usize = 1025;
@@ -23,7 +23,8 @@ fn ready_line(address: &[u8], number: u8, body: &[u8], line: &mut [u8]) -> Resul
     requires { (1025 ≤ length line.old) × (number < 10) }
     ensures { Lined (request_read address.now (48 + number) body.now) (48 + number) line.new result }
 {
-    match prepare(address, number, body, line) {
+    let request = Request { address, body };
+    match request.prepare(number, line) {
         Ok(prepared) => {
             line[prepared.length] = b'\r';
             Ok(prepared)
