@@ -1,5 +1,7 @@
 -- From how one number stands to the ten, and to the relations of a link's whole life.
-use Rattle.std.proofs.Common.{◌≡◌, ℕ, zero, suc, ◌+◌, ◌-◌, ◌%◌, ◌<◌, ◌≤◌, Bool, true, false, cond, ltb, ◌⊎◌, List, [], ◌∷◌, length, get_or, set, Some, None, sym, refl, ap, ◌∙◌, subst, inl, inr, add-one, arith, get_or-set_other, get_or-set_same}
+use Rattle.std.proofs.Common.{◌≡◌, ℕ, zero, suc, ◌+◌, ◌-◌, ◌%◌, ◌<◌, ◌≤◌, Bool, true, false, cond, ltb, ◌⊎◌, List, [], ◌∷◌, length, get_or, set, map, Some, None, Option, sym, refl, ap, ◌∙◌, subst, inl, inr, add-one, arith, get_or-set_other, get_or-set_same}
+use Rattle.std.specs.List.{find, range_with_len}
+use Rattle.std.specs.Option.{option_map}
 use Rattle.std.proofs.lemmas.List.{set-get_or, get_or_past, get_or_default}
 use Rattle.std.proofs.lemmas.Bool.{cases_eq, cases_lt, lt-ltb, le-ltb}
 use Rattle.line.specs.Lines.{Message, meant}
@@ -7,6 +9,7 @@ use Rattle.life.specs.Answers.{Step, not_next, final, onward, next}
 use Rattle.life.specs.Calls.{Kind, Outcome}
 use Rattle.life.specs.Link.{Pending, Slot, is_free, is_open, is_answered, is_lost, is_given_up, Same, Put, FirstFree, after_reset, one_if_open, count_open, when_open, when_given_up, Settles, was_answered, was_lost, was_open, not_held, Told, told_unknown, told_elsewhere, told_misplaced, told_more, told_last, told_late, told_late_last}
 use Rattle.numbers.specs.Ours.{ours}
+use Rattle.numbers.specs.Ten.{NextFree}
 use Rattle.numbers.specs.declared.slot.Slot.{Slot as Held}
 use Rattle.numbers.specs.declared.slot.Outcome.{Outcome as Answer}
 use Rattle.numbers.specs.declared.slot.Outcome.TheVariants.{Answered, GivenUp, Lost, Foreign}
@@ -136,27 +139,53 @@ is_free_is (is_given_up p) e = let z : ◌≡◌ {A = ℕ} 0 1 = cc in absurd (o
 abbrev pub NoneFree : (ℕ → Slot) → ℕ → ℕ → Type 0
 NoneFree b r i = (j : ℕ) → j < i → b ((r + 1 + j) % 10) ≡ is_free → ⊥
 
-pub first_found : (l : List Held) (r f i : ℕ) → f ≡ r → NoneFree (standing l) r i → true ≡ is_free_slot (slot_of (get_or l ((f + 1 + i) % 10) Free))
-    → ((f + 1 + i) % 10 < 10) × FirstFree (standing l) r ((f + 1 + i) % 10)
-first_found l r f i e none free =
-    let small : (f + 1 + i) % 10 < 10 = omega arith in
-    (small, record { free = inside l ((f + 1 + i) % 10) small ∙ is_free_is _ free; far = i; there = ap (λ (x : ℕ). (x + 1 + i) % 10) e; first = none })
+-- the number i places after the one that follows r
+abbrev pub place : ℕ → ℕ → ℕ
+place r i = (r % 10 + 1 + i) % 10
 
-pub one_more_not_free : (l : List Held) (r f i : ℕ) → f ≡ r → NoneFree (standing l) r i → false ≡ is_free_slot (slot_of (get_or l ((f + 1 + i) % 10) Free)) → NoneFree (standing l) r (i + 1)
-one_more_not_free l r f i e none not-Free j lt is = go (cases_eq j i)
+abbrev pub free_in : List Held → ℕ → Bool
+free_in l n = is_free_slot (slot_of (get_or l n Free))
+
+-- what a search of the first i numbers after r finds
+abbrev Found : (ℕ → Slot) → ℕ → ℕ → Option ℕ → Type 0
+Found b r i None = NoneFree b r i
+Found b r i (Some n) = (n < 10) × FirstFree b r n
+
+module _ (l : List Held) (r i : ℕ) (none : NoneFree (standing l) r i) where
+  same : place r i ≡ (r + 1 + i) % 10
+  same = omega arith
+
+  here : slot_of (get_or l (place r i) Free) ≡ standing l ((r + 1 + i) % 10)
+  here = let small : place r i < 10 = omega arith in sym (inside l (place r i) small) ∙ ap (standing l) same
+
+  first_found : free_in l (place r i) ≡ true → (place r i < 10) × FirstFree (standing l) r (place r i)
+  first_found free = (omega arith, record { free = ap (standing l) same ∙ sym here ∙ is_free_is _ (sym free); far = i; there = same; first = none })
+
+  one_more_not_free : free_in l (place r i) ≡ false → NoneFree (standing l) r (i + 1)
+  one_more_not_free not_free j lt is = go (cases_eq j i)
+    where
+      go : (j ≡ i) ⊎ (j ≡ i → ⊥) → ⊥
+      go (inl q) = let x : false ≡ true = sym not_free ∙ ap is_free_slot (here ∙ ap (λ (k : ℕ). standing l ((r + 1 + k) % 10)) (sym q) ∙ is) in cc
+      go (inr ne) = none j (omega arith) is
+
+found_is : (b : ℕ → Slot) (r i n : ℕ) (o : Option ℕ) → option_map (λ (k : ℕ). k) o ≡ Some n → (n < 10) × FirstFree b r n → Found b r i o
+found_is b r i n None e f = let z : ◌≡◌ {A = ℕ} 0 1 = cc in absurd (omega arith)
+found_is b r i n (Some k) e f = let same : k ≡ n = cc in rw same f
+
+-- the numbers from the place i on are searched, and none before it is free
+searched : (l : List Held) (r i n : ℕ) (o : Option ℕ) → NoneFree (standing l) r i → option_map (λ (k : ℕ). k) o ≡ find (free_in l) (map (place r) (range_with_len i n)) → Found (standing l) r (i + n) o
+searched l r i zero None none e = λ j lt. none j (omega arith)
+searched l r i zero (Some k) none e = let z : ◌≡◌ {A = ℕ} 0 1 = cc in absurd (omega arith)
+searched l r i (suc n) o none e = go (free_in l (place r i)) refl (λ more f. searched l r (i + 1) n o more f)
   where
-    here : j ≡ i → slot_of (get_or l ((f + 1 + i) % 10) Free) ≡ is_free
-    here q =
-        let small : (f + 1 + i) % 10 < 10 = omega arith in
-        let same : (f + 1 + i) % 10 ≡ (r + 1 + j) % 10 = ap (λ (x : ℕ). x % 10) (omega arith) in
-        sym (inside l ((f + 1 + i) % 10) small) ∙ ap (standing l) same ∙ is
-
-    go : (j ≡ i) ⊎ (j ≡ i → ⊥) → ⊥
-    go (inl q) = let x = not-Free ∙ ap is_free_slot (here q) in let z : ◌≡◌ {A = ℕ} 0 1 = cc in omega arith
-    go (inr ne) = none j (omega arith) is
+    go : (v : Bool) → free_in l (place r i) ≡ v
+        → (NoneFree (standing l) r (i + 1) → option_map (λ (k : ℕ). k) o ≡ find (free_in l) (map (place r) (range_with_len (i + 1) n)) → Found (standing l) r (i + 1 + n) o)
+        → Found (standing l) r (i + suc n) o
+    go true q rest = found_is (standing l) r (i + suc n) (place r i) o (rw q at e) (first_found l r i none q)
+    go false q rest = subst (λ (k : ℕ). Found (standing l) r k o) (omega arith) (rest (one_more_not_free l r i none q) (rw q at e))
 
 -- after ten numbers in a row none is left
-pub none_left : (b : ℕ → Slot) (r i : ℕ) → 10 ≤ i → NoneFree b r i → (k : ℕ) → k < 10 → b k ≡ is_free → ⊥
+none_left : (b : ℕ → Slot) (r i : ℕ) → 10 ≤ i → NoneFree b r i → (k : ℕ) → k < 10 → b k ≡ is_free → ⊥
 none_left b r i most none k small is = go (cases_lt k ((r + 1) % 10))
   where
     at : (j : ℕ) → j < 10 → (r + 1 + j) % 10 ≡ k → ⊥
@@ -165,6 +194,13 @@ none_left b r i most none k small is = go (cases_lt k ((r + 1) % 10))
     go : (k < (r + 1) % 10) ⊎ ((r + 1) % 10 ≤ k) → ⊥
     go (inl l) = at (k + 10 - (r + 1) % 10) (omega arith) (omega arith)
     go (inr l) = at (k - (r + 1) % 10) (omega arith) (omega arith)
+
+pub next_found : (l : List Held) (r : ℕ) (o : Option ℕ) → option_map (λ (k : ℕ). k) o ≡ find (free_in l) (map (place r) (range_with_len 0 10)) → NextFree (standing l) r o
+next_found l r o e = go o (searched l r 0 10 o (λ j lt. absurd (omega arith)) e)
+  where
+    go : (x : Option ℕ) → Found (standing l) r 10 x → NextFree (standing l) r x
+    go None none = none_left (standing l) r 10 (omega arith) none
+    go (Some n) f = f
 
 -- ---- the reset of all ten, up to the number i
 pub record ResetUpTo (b : ℕ → Slot) (i : ℕ) (count : ℕ) (a : ℕ → Slot) : Type 0 where

@@ -1,33 +1,8 @@
--- Comparing bytes one by one, and with their escapes resolved into a buffer.
-use Rattle.std.proofs.Common.{◌≡◌, ℕ, ◌+◌, ◌-◌, ◌<◌, ◌≤◌, Bool, true, false, cond, eqb, leb, ◌⊎◌, List, [], ◌∷◌, length, get_or, take, drop, Some, None, sym, refl, ap, ◌∙◌, inl, inr, arith}
-use Rattle.std.proofs.lemmas.List.{drop_more, drop_all, take_at}
+-- Bytes at the front of a buffer, where a field was resolved.
+use Rattle.std.proofs.Common.{◌≡◌, ℕ, ◌-◌, ◌<◌, ◌≤◌, ◌⊎◌, List, length, take, drop, Some, None, ap, ◌∙◌, inl, inr, arith}
+use Rattle.std.proofs.lemmas.List.{take_at}
 use Rattle.std.proofs.lemmas.Bool.{cases_lt, lt-leb, le-leb}
 use Rattle.escape.specs.Resolving.{fitting, written}
-use Rattle.numbers.specs.Browse.{same_bytes}
-use Rattle.numbers.specs.Steps.{if_fits}
-
-pub other_length : (a b : List ℕ) → (length a ≡ length b → ⊥) → false ≡ same_bytes a b
-other_length [] [] ne = absurd (ne refl)
-other_length [] (y ∷ b) ne = refl
-other_length (x ∷ a) [] ne = refl
-other_length (x ∷ a) (y ∷ b) ne = go (eqb x y) (other_length a b (λ e. ne (omega arith)))
-  where
-    go : (v : Bool) → false ≡ same_bytes a b → false ≡ cond v (same_bytes a b) false
-    go true rest = rest
-    go false rest = refl
-
-module _ (a b : List ℕ) (i : ℕ) (e : same_bytes a b ≡ same_bytes (drop i a) (drop i b)) where
-  same_at : i < length a → i < length b → same_bytes a b ≡ cond (eqb (get_or a i 0) (get_or b i 0)) (same_bytes (drop (i + 1) a) (drop (i + 1) b)) false
-  same_at h k = e ∙ rw (drop_more a i 0 h, drop_more b i 0 k)
-
-  pub same_more : i < length a → i < length b → eqb (get_or a i 0) (get_or b i 0) ≡ true → same_bytes a b ≡ same_bytes (drop (i + 1) a) (drop (i + 1) b)
-  same_more h k p = same_at h k ∙ ap (λ (v : Bool). cond v (same_bytes (drop (i + 1) a) (drop (i + 1) b)) false) p
-
-  pub same_stop : i < length a → i < length b → eqb (get_or a i 0) (get_or b i 0) ≡ false → false ≡ same_bytes a b
-  same_stop h k p = sym (same_at h k ∙ ap (λ (v : Bool). cond v (same_bytes (drop (i + 1) a) (drop (i + 1) b)) false) p)
-
-  pub same_all : length a ≤ i → length b ≤ i → true ≡ same_bytes a b
-  same_all h k = sym (e ∙ rw (drop_all i a h, drop_all i b k))
 
 -- ---- bytes at the front of a buffer, where they were written with room enough
 pub none_fits : (bs : List ℕ) (room : ℕ) → None ≡ fitting bs room → room < length bs
@@ -48,26 +23,3 @@ pub front_is : (bs out after : List ℕ) (n : ℕ) → Some n ≡ fitting bs (le
 front_is bs out after n e w =
     let f = some_fits bs (length out) n e in
     ap (take (n - 0)) (w ∙ rw (le-leb (length bs) (length out) (omega arith))) ∙ take_at bs (drop (length bs) out) (n - 0) (omega arith)
-
--- ---- the same as an option
-pub fitted : (bs out after : List ℕ) (n : ℕ) → Some n ≡ fitting bs (length out) → after ≡ written bs out → Some (take (n - 0) after) ≡ if_fits bs (length out)
-fitted bs out after n e w =
-    let f = some_fits bs (length out) n e in
-    rw (front_is bs out after n e w, le-leb (length bs) (length out) (omega arith))
-
-pub not_fitted : (bs : List ℕ) (room : ℕ) → None ≡ fitting bs room → None ≡ if_fits bs room
-not_fitted bs room e = rw (lt-leb (length bs) room (none_fits bs room e))
-
-pub fits_some : (bs got : List ℕ) (room : ℕ) → Some got ≡ if_fits bs room → got ≡ bs
-fits_some bs got room e = go (leb (length bs) room) refl
-  where
-    go : (v : Bool) → leb (length bs) room ≡ v → got ≡ bs
-    go true q = let f : Some got ≡ Some bs = rw q at e in cc
-    go false q = let f : Some got ≡ None = rw q at e in let z : ◌≡◌ {A = ℕ} 0 1 = cc in absurd (omega arith)
-
-pub fits_none : (bs : List ℕ) (room : ℕ) → None ≡ if_fits bs room → room < length bs
-fits_none bs room e = go (cases_lt room (length bs))
-  where
-    go : (room < length bs) ⊎ (length bs ≤ room) → room < length bs
-    go (inl l) = l
-    go (inr l) = let f : None ≡ Some bs = rw (le-leb (length bs) room l) at e in let z : ◌≡◌ {A = ℕ} 0 1 = cc in absurd (omega arith)

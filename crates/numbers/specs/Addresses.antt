@@ -1,7 +1,6 @@
 -- What a kept address means, and which addresses can be kept.
-use Rattle.std.specs.Prelude.{ℕ, Bool, cond, List, length, Some, None, Option, ◌==◌}
+use Rattle.std.specs.Prelude.{ℕ, cond, List, length, Some, None, Option, ◌==◌}
 use Rattle.line.specs.Forms.{Address}
-use Rattle.numbers.specs.Browse.{same_bytes}
 use Rattle.numbers.specs.declared.address.Device.{Device}
 use Rattle.numbers.specs.declared.address.Device.TheVariants.{Number, Serial}
 use Rattle.numbers.specs.declared.address.CommandAddress.{CommandAddress}
@@ -12,9 +11,6 @@ device_of (Serial bytes) = bytes
 
 abbrev pub address_of : CommandAddress → Address
 address_of a = record { device = device_of a.device; zone = a.zone }
-
-abbrev pub same_device : Device → List ℕ → Bool
-same_device d bytes = same_bytes bytes (device_of d)
 
 -- the device of a command has 2 bytes or 13
 abbrev pub keepable_device : List ℕ → Option (List ℕ)

@@ -1,38 +1,20 @@
 -- Which messages are a BROWSE command, an answer of status 000, an overview and a result line. The fields of a message have their
 -- escapes resolved; of an answer the first is the status and the second the name.
-use Rattle.std.specs.Prelude.{ℕ, ◌+◌, ◌-◌, ◌*◌, Bool, true, false, cond, List, [], ◌∷◌, length, Some, None, codes, Option, ◌==◌, nat_le}
+use Rattle.std.specs.Prelude.{ℕ, Bool, true, false, cond, List, Some, None, codes, Option}
 use Rattle.std.specs.List.{slice_get}
-use Rattle.escape.specs.Tokens.{digit}
-use Rattle.line.specs.Forms.{Side, command, answer, every}
+use Rattle.numeral.specs.Numbers.{counted}
+use Rattle.line.specs.Forms.{Side, command, answer}
 use Rattle.line.specs.Lines.{Message}
+use Rattle.line.specs.Fields.{is_text}
 
-abbrev pub same_bytes : List ℕ → List ℕ → Bool
-same_bytes [] [] = true
-same_bytes [] (c ∷ t) = false
-same_bytes (b ∷ s) [] = false
-same_bytes (b ∷ s) (c ∷ t) = cond (b == c) (same_bytes s t) false
-
--- ---- numbers: 1 to 5 digits, at most 65,535; leading zeros are allowed
--- the value of digits that follow those of the value n
-abbrev pub value_after : ℕ → List ℕ → ℕ
-value_after n [] = n
-value_after n (d ∷ ds) = value_after (n * 10 + (d - 48)) ds
-
-abbrev pub at_most : ℕ → ℕ → Option ℕ
-at_most most n = cond (nat_le n most) (Some n) None
-
+-- a number: 1 to 5 digits, at most 65,535; leading zeros are allowed
 abbrev pub number : List ℕ → Option ℕ
-number s = cond (nat_le 1 (length s)) (cond (nat_le (length s) 5) (cond (every digit s) (at_most 65535 (value_after 0 s)) None) None) None
+number = counted
 
 -- ---- messages
 abbrev pub is_command : Side → Bool
 is_command command = true
 is_command answer = false
-
--- the field is there, and is the text
-abbrev pub is_text : List ℕ → Option (List ℕ) → Bool
-is_text text None = false
-is_text text (Some f) = same_bytes f text
 
 -- the field is there, and is a number
 abbrev pub number_in : Option (List ℕ) → Option ℕ

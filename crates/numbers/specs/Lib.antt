@@ -1,7 +1,6 @@
 -- The rules of answers to BROWSE, the codec of the link, and the ten numbers.
 pub mod Browse
 pub mod Ours
-pub mod Steps
 pub mod Meanings
 pub mod Addresses
 pub mod Slots

@@ -1,10 +1,12 @@
 -- The codec of the link, as the promises speak of it: the readings and the canonical line of control lines, and the BROWSE rules.
-use Rattle.std.specs.Prelude.{ℕ, Bool, true, false, cond, List, [], ◌∷◌, Some, None, Option, ◌==◌, nat_lt}
+use Rattle.std.specs.Prelude.{ℕ, Bool, true, false, cond, List, [], ◌∷◌, Option, nat_eq, nat_lt}
+use Rattle.std.specs.Option.{option_eq}
+use Rattle.escape.specs.Texts.{same_bytes}
 use Rattle.line.specs.Forms.{command, answer, Address, every}
 use Rattle.line.specs.Lines.{Message, Read, reading}
 use Rattle.writer.specs.Canonical.{canonical, sendable}
 use Rattle.life.specs.Codec.{Codec}
-use Rattle.numbers.specs.Browse.{same_bytes, is_command, is_browse, okay, overview, result}
+use Rattle.numbers.specs.Browse.{is_command, is_browse, okay, overview, result}
 
 abbrev pub all_bytes : List (List ℕ) → Bool
 all_bytes [] = true
@@ -15,10 +17,7 @@ abbrev pub sendable_command : Message → Bool
 sendable_command m = cond (is_command m.side) (cond (all_bytes m.fields) (sendable m) false) false
 
 abbrev pub same_zone : Option ℕ → Option ℕ → Bool
-same_zone None None = true
-same_zone None (Some z) = false
-same_zone (Some y) None = false
-same_zone (Some y) (Some z) = y == z
+same_zone = option_eq nat_eq
 
 -- the same bytes for the device, and the same zone or none
 abbrev pub same_address : Address → Address → Bool

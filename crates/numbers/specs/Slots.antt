@@ -3,7 +3,7 @@ use Rattle.std.specs.Prelude.{ℕ, Bool, true, false, cond, List, Some, None, co
 use Rattle.std.specs.Option.{option_map}
 use Rattle.line.specs.Lines.{Message}
 use Rattle.life.specs.Answers.{start, not_next, final, onward, next}
-use Rattle.life.specs.Answers.{Step as Stepped}
+use Rattle.life.specs.Answers.{Step as Stepped, Place as Placed}
 use Rattle.life.specs.Calls.{Kind, stray, misplaced, more, last, late, late_last, answered, given_up, lost, foreign}
 use Rattle.life.specs.Calls.{Outcome as Settling}
 use Rattle.life.specs.Link.{is_free, is_open, is_answered, is_lost, is_given_up, advanced}
@@ -23,7 +23,7 @@ use Rattle.numbers.specs.declared.slot.Match.TheVariants.{Stray, Misplaced, More
 
 -- ---- what the values of the code mean
 abbrev pub pending_of : Pending → Waiting
-pending_of p = record { address = address_of p.address; browse = p.browse; place = place_of p.place }
+pending_of p = record { address = address_of p.address; browse = p.browse; place = place_of p.listing }
 
 abbrev pub slot_of : Slot → Standing
 slot_of Free = is_free
@@ -77,6 +77,14 @@ settles (is_given_up p) = (foreign, is_given_up p)
 -- the step of a line in the answer to a command, if it has the command's address
 abbrev pub tells_pending : Waiting → Message → Option Stepped
 tells_pending p m = cond (ours.same_address m.address p.address) (Some (next ours p.browse p.place m)) None
+
+-- a number that waits, at another place in its answer
+abbrev pub further : Placed → Standing → Standing
+further q is_free = is_free
+further q (is_open p) = is_open (advanced p q)
+further q is_answered = is_answered
+further q is_lost = is_lost
+further q (is_given_up p) = is_given_up (advanced p q)
 
 abbrev pub stepped : Option Step → Option Stepped
 stepped o = option_map step_of o

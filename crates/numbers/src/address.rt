@@ -1,12 +1,11 @@
 // The address of a command, kept while an answer to it may come.
-ghost use Rattle.std.specs.Prelude.{◌≡◌, length};
-ghost use Rattle.std.specs.Option.{option_map};
+ghost use Rattle.std.specs.Prelude.{◌≡◌};
 ghost use Rattle.line.specs.Meanings.{placed};
-ghost use Rattle.numbers.specs.Ours.{same_address, same_zone};
-ghost use Rattle.numbers.specs.Addresses.{device_of, address_of, keepable, keepable_device, same_device};
+ghost use Rattle.numbers.specs.Ours.{same_address};
+ghost use Rattle.numbers.specs.Addresses.{device_of, address_of};
 
-use crate::text::same_bytes;
 use line::Address;
+use std::array::TryFromSliceError;
 
 // A device by two digits, or by # and twelve digits of base sixteen, as its bytes stand in the line.
 #[derive(Clone, Copy)]
@@ -21,65 +20,60 @@ pub struct CommandAddress {
     pub zone: Option<u8>,
 }
 
-fn thirteen(bytes: &[u8]) -> [u8; 13]
-    requires { length bytes.now ≡ 13 }
-    ensures { result ≡ bytes.now }
-{
-    let mut copy = [0u8; 13];
-    copy.copy_from_slice(bytes);
-    copy
-}
-
-fn device_in(bytes: &[u8]) -> Option<Device>
-    ensures { option_map device_of result ≡ keepable_device bytes.now }
-{
-    match bytes {
-        [a, b] => Some(Device::Number([*a, *b])),
-        _ => {
-            if bytes.len() == 13 {
-                Some(Device::Serial(thirteen(bytes)))
-            } else {
-                None
-            }
+impl Device {
+    pub fn as_bytes(&self) -> &[u8]
+        ensures { result.now ≡ device_of self.now }
+    {
+        match self {
+            Device::Number(digits) => digits,
+            Device::Serial(text) => text,
         }
     }
 }
 
-// The address, if its device has as many bytes as a command's has.
-pub fn kept_address(address: &Address<'_>) -> Option<CommandAddress>
-    ensures { option_map address_of result ≡ keepable (placed address.now) }
-{
-    match device_in(address.device) {
-        Some(device) => Some(CommandAddress {
-            device,
+// A device that has as many bytes as a command's has.
+impl TryFrom<&[u8]> for Device {
+    ghost use Rattle.std.specs.Prelude.{◌≡◌};
+    ghost use Rattle.std.specs.Option.{option_map};
+    ghost use Rattle.std.specs.Result.{result_ok};
+    ghost use Rattle.numbers.specs.Addresses.{device_of, keepable_device};
+
+    type Error = TryFromSliceError;
+
+    ghost try_from_gives = { λ bytes r. option_map device_of (result_ok r) ≡ keepable_device bytes.now };
+
+    fn try_from(bytes: &[u8]) -> Result<Device, TryFromSliceError> {
+        match bytes {
+            [a, b] => Ok(Device::Number([*a, *b])),
+            _ => Ok(Device::Serial(bytes.try_into()?)),
+        }
+    }
+}
+
+impl TryFrom<Address<'_>> for CommandAddress {
+    ghost use Rattle.std.specs.Prelude.{◌≡◌};
+    ghost use Rattle.std.specs.Option.{option_map};
+    ghost use Rattle.std.specs.Result.{result_ok};
+    ghost use Rattle.line.specs.Meanings.{placed};
+    ghost use Rattle.numbers.specs.Addresses.{address_of, keepable};
+
+    type Error = TryFromSliceError;
+
+    ghost try_from_gives = { λ address r. option_map address_of (result_ok r) ≡ keepable (placed address) };
+
+    fn try_from(address: Address<'_>) -> Result<CommandAddress, TryFromSliceError> {
+        Ok(CommandAddress {
+            device: address.device.try_into()?,
             zone: address.zone,
-        }),
-        None => None,
+        })
     }
 }
 
-fn same_device(device: &Device, bytes: &[u8]) -> bool
-    ensures { result ≡ same_device device.now bytes.now }
-{
-    match device {
-        Device::Number(own) => same_bytes(bytes, own),
-        Device::Serial(own) => same_bytes(bytes, own),
+impl CommandAddress {
+    // Whether an answer has this address: the one place where addresses are compared.
+    pub fn is_that_of(&self, answer: &Address<'_>) -> bool
+        ensures { result ≡ same_address (placed answer.now) (address_of self.now) }
+    {
+        answer.device == self.device.as_bytes() && answer.zone == self.zone
     }
-}
-
-fn same_zone(a: Option<u8>, b: Option<u8>) -> bool
-    ensures { result ≡ same_zone a b }
-{
-    match (a, b) {
-        (None, None) => true,
-        (Some(x), Some(y)) => x == y,
-        _ => false,
-    }
-}
-
-// Whether the address of an answer is that of the command: the one place where addresses are compared.
-pub fn same_address(answer: &Address<'_>, command: &CommandAddress) -> bool
-    ensures { result ≡ same_address (placed answer.now) (address_of command.now) }
-{
-    same_device(&command.device, answer.device) && same_zone(answer.zone, command.zone)
 }

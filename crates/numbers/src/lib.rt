@@ -7,19 +7,16 @@ ghost use Rattle.numbers.specs.Ours.{ours};
 
 mod address;
 mod listing;
-mod numeral;
 mod slot;
 mod ten;
 #[cfg(test)]
 mod tests;
-mod text;
 
-pub use address::{CommandAddress, Device, kept_address, same_address};
-pub use listing::{Place, Step, is_browse, next_step, overview, result};
-pub use numeral::number_of;
+pub use address::{CommandAddress, Device};
+pub use listing::{Listing, Step, is_browse, next_step, overview, result};
+pub use numeral::field_count as number_of;
 pub use slot::{Match, Outcome, Pending, Slot};
 pub use ten::Numbers;
-pub use text::same_bytes;
 
 // Lines are read and written as the promises need it.
 pub fn codec_is_lawful()

@@ -1,61 +1,43 @@
 // What comes next in the answer to a command: the rules of overviews and result lines.
-ghost use Rattle.std.specs.Prelude.{◌≡◌, ◌<◌, ◌≤◌, length};
+ghost use Rattle.std.specs.Prelude.{◌≡◌, ◌<◌};
 ghost use Rattle.std.specs.List.{slice_get};
 ghost use Rattle.line.specs.Meanings.{message_of};
 ghost use Rattle.life.specs.Answers.{next};
-ghost use Rattle.numbers.specs.Browse.{is_browse, is_text, number_in, okay as is_okay, name_in, overview as overview_in, result as result_in};
+ghost use Rattle.line.specs.Fields.{is_text};
+ghost use Rattle.numbers.specs.Browse.{is_browse, number_in, okay as is_okay, name_in, overview as overview_in, result as result_in};
 ghost use Rattle.numbers.specs.Ours.{ours};
 ghost use Rattle.numbers.specs.Meanings.{place_of, step_of, first_step as step_at_start, result_step as step_within};
 
-use crate::numeral::number_of;
-use crate::text::{is_text, same_bytes};
-use line::Message;
+use line::{Message, Side};
+use numeral::field_count;
 
-// The place in an answer.
+// How far a listing is: its overview said `total` result lines, and `done` of them came.
 #[derive(Clone, Copy, PartialEq, Eq, Debug)]
-pub enum Place {
-    Start,
-    // after an overview that says `total`, and `done` of its result lines
-    Within { done: u16, total: u16 },
+pub struct Listing {
+    pub done: u16,
+    pub total: u16,
 }
 
-// What a line is at a place in an answer.
+// What a line is at its place in an answer.
 #[derive(Clone, Copy, PartialEq, Eq, Debug)]
 pub enum Step {
     NotNext,
     Final,
-    // the place after it
-    Onward(Place),
+    // the listing after it
+    Onward(Listing),
 }
 
 fn okay(message: &Message<'_>) -> bool
     ensures { result ≡ is_okay (message_of message.now) }
 {
-    match message.raw_field(0) {
-        Some(status) => same_bytes(status, b"000"),
-        None => false,
-    }
+    message.field_is(0, b"000")
 }
 
 // Whether the message is a command named BROWSE.
 pub fn is_browse(message: &Message<'_>) -> bool
     ensures { result ≡ is_browse (message_of message.now) }
 {
-    match (message, message.raw_field(0)) {
-        (Message::Command { .. }, Some(name)) => same_bytes(name, b"BROWSE"),
-        _ => false,
-    }
-}
-
-// Whether a field behind the first is there, and is the text.
-fn field_is(message: &Message<'_>, index: usize, text: &[u8]) -> bool
-    requires { (0 < index) × (length text.now ≤ 23) }
-    ensures { result ≡ is_text text.now (slice_get (message_of message.now).fields index) }
-{
-    match message.raw_field(index) {
-        Some(field) => is_text(field, text),
-        None => false,
-    }
+    message.side() == Side::Command && message.field_is(0, b"BROWSE")
 }
 
 // The number that a field behind the first is.
@@ -63,21 +45,14 @@ fn number_at(message: &Message<'_>, index: usize) -> Option<u16>
     requires { 0 < index }
     ensures { result ≡ number_in (slice_get (message_of message.now).fields index) }
 {
-    match message.raw_field(index) {
-        Some(field) => number_of(field),
-        None => None,
-    }
+    field_count(message.raw_field(index)?)
 }
 
 // Whether the message has this name, and at least three fields behind it.
 fn is_named(message: &Message<'_>, name: &[u8]) -> bool
-    requires { length name.now ≤ 23 }
     ensures { result ≡ is_text name.now (name_in (message_of message.now).fields) }
 {
-    match message.raw_field(4) {
-        Some(_) => field_is(message, 1, name),
-        None => false,
-    }
+    message.raw_field(4).is_some() && message.field_is(1, name)
 }
 
 // Of an overview, how many result lines follow it.
@@ -98,12 +73,11 @@ pub fn result(message: &Message<'_>) -> Option<u16>
     if !is_named(message, b"BROWSE_RESULT") {
         return None;
     }
-    match number_at(message, 3) {
-        Some(_) => number_at(message, 2),
-        None => None,
-    }
+    number_at(message, 3)?;
+    number_at(message, 2)
 }
 
+// The step of the first line of a listing.
 fn first_step(message: &Message<'_>) -> Step
     ensures { step_of result ≡ step_at_start (message_of message.now) }
 {
@@ -113,37 +87,41 @@ fn first_step(message: &Message<'_>) -> Step
     match overview(message) {
         None => Step::NotNext,
         Some(0) => Step::Final,
-        Some(total) => Step::Onward(Place::Within { done: 0, total }),
+        Some(total) => Step::Onward(Listing { done: 0, total }),
     }
 }
 
-fn result_step(done: u16, total: u16, message: &Message<'_>) -> Step
-    ensures { step_of result ≡ step_within done total (message_of message.now) }
-{
-    if !okay(message) {
-        return Step::NotNext;
-    }
-    let Some(count) = result(message) else {
-        return Step::NotNext;
-    };
-    if count == 0 || count - 1 != done {
-        Step::NotNext
-    } else if count == total {
-        Step::Final
-    } else {
-        Step::Onward(Place::Within { done: count, total })
+impl Listing {
+    // The step of the line after those that came.
+    fn step(self, message: &Message<'_>) -> Step
+        ensures { step_of result ≡ step_within self.done self.total (message_of message.now) }
+    {
+        let Listing { done, total } = self;
+        if !okay(message) {
+            return Step::NotNext;
+        }
+        match result(message) {
+            Some(count) if count.checked_sub(1) == Some(done) => {
+                if count == total {
+                    Step::Final
+                } else {
+                    Step::Onward(Listing { done: count, total })
+                }
+            }
+            _ => Step::NotNext,
+        }
     }
 }
 
-// What the message is at the place, in the answer to BROWSE or to another command.
-pub fn next_step(place: Place, browse: bool, message: &Message<'_>) -> Step
-    ensures { step_of result ≡ next ours browse (place_of place) (message_of message.now) }
+// What the message is in the answer to BROWSE or to another command: the first line of it, or one within a listing.
+pub fn next_step(listing: Option<Listing>, browse: bool, message: &Message<'_>) -> Step
+    ensures { step_of result ≡ next ours browse (place_of listing) (message_of message.now) }
 {
     if !browse {
         return Step::Final;
     }
-    match place {
-        Place::Start => first_step(message),
-        Place::Within { done, total } => result_step(done, total, message),
+    match listing {
+        None => first_step(message),
+        Some(listing) => listing.step(message),
     }
 }

@@ -1,22 +1,24 @@
 // One of the ten numbers: how it stands, and what each call makes of it.
 ghost use Rattle.std.specs.Prelude.{◌≡◌, ℕ, Some};
 ghost use Rattle.std.specs.Option.{option_map};
-ghost use Rattle.line.specs.Meanings.{message_of, placed};
-ghost use Rattle.life.specs.Link.{is_open, is_given_up, advanced, after_reset, one_if_open};
-ghost use Rattle.numbers.specs.Slots.{begins, slot_of, pending_of, outcome_of, outcome_name, IfForeign, kind_of, settles, tells, tells_pending, stepped, is_free_slot};
+ghost use Rattle.line.specs.Meanings.{message_of};
+ghost use Rattle.life.specs.Link.{advanced, after_reset, one_if_open};
+ghost use Rattle.numbers.specs.Slots.{begins, slot_of, pending_of, outcome_of, outcome_name, IfForeign, kind_of, settles, tells, tells_pending, further, stepped, is_free_slot};
 ghost use Rattle.numbers.specs.Meanings.{place_of};
 
-use crate::address::{CommandAddress, kept_address, same_address};
-use crate::listing::{Place, Step, is_browse, next_step};
-use line::{Address, Message};
+use crate::address::CommandAddress;
+use crate::listing::{Listing, Step, is_browse, next_step};
+use line::Message;
 use std::fmt;
 
 // A command whose answer is not finished.
 #[derive(Clone, Copy)]
 pub struct Pending {
     pub address: CommandAddress,
+    // the rules of its answer
     pub browse: bool,
-    pub place: Place,
+    // none before an overview
+    pub listing: Option<Listing>,
 }
 
 #[derive(Clone, Copy)]
@@ -61,26 +63,16 @@ pub enum Match {
     LateLast,
 }
 
-fn address_in<'a>(message: &Message<'a>) -> Address<'a>
-    ensures { placed result ≡ (message_of message.now).address }
-{
-    match message {
-        Message::Answer { address, .. }
-        | Message::Event { address, .. }
-        | Message::Command { address, .. } => *address,
-    }
-}
-
 impl Pending {
     // The command just sent; none if its device has not as many bytes as a command's has.
     pub fn begun(message: &Message<'_>) -> Option<Pending>
         ensures { option_map pending_of result ≡ begins (message_of message.now) }
     {
-        let address = kept_address(&address_in(message))?;
+        let address = message.address().try_into().ok()?;
         Some(Pending {
             address,
             browse: is_browse(message),
-            place: Place::Start,
+            listing: None,
         })
     }
 
@@ -88,46 +80,19 @@ impl Pending {
     fn step(&self, message: &Message<'_>) -> Option<Step>
         ensures { stepped result ≡ tells_pending (pending_of self.now) (message_of message.now) }
     {
-        if same_address(&address_in(message), &self.address) {
-            Some(next_step(self.place, self.browse, message))
+        if self.address.is_that_of(&message.address()) {
+            Some(next_step(self.listing, self.browse, message))
         } else {
             None
         }
     }
 
-    fn at(self, place: Place) -> Pending
-        ensures { pending_of result ≡ advanced (pending_of self) (place_of place) }
+    fn at(self, listing: Listing) -> Pending
+        ensures { pending_of result ≡ advanced (pending_of self) (place_of (Some listing)) }
     {
         Pending {
-            address: self.address,
-            browse: self.browse,
-            place,
-        }
-    }
-}
-
-impl Pending {
-    // What is told of a line while the number is open, and how the number stands afterwards.
-    fn told_open(self, message: &Message<'_>) -> (Match, Slot)
-        ensures { (n : ℕ) → (kind_of n result.0, slot_of result.1) ≡ tells n (is_open (pending_of self)) (message_of message.now) }
-    {
-        match self.step(message) {
-            None => (Match::Stray, Slot::Open(self)),
-            Some(Step::NotNext) => (Match::Misplaced, Slot::Open(self)),
-            Some(Step::Final) => (Match::Last, Slot::Answered),
-            Some(Step::Onward(place)) => (Match::More, Slot::Open(self.at(place))),
-        }
-    }
-
-    // The same while it is given up.
-    fn told_late(self, message: &Message<'_>) -> (Match, Slot)
-        ensures { (n : ℕ) → (kind_of n result.0, slot_of result.1) ≡ tells n (is_given_up (pending_of self)) (message_of message.now) }
-    {
-        match self.step(message) {
-            None => (Match::Stray, Slot::GivenUp(self)),
-            Some(Step::NotNext) => (Match::Misplaced, Slot::GivenUp(self)),
-            Some(Step::Final) => (Match::LateLast, Slot::Free),
-            Some(Step::Onward(place)) => (Match::Late, Slot::GivenUp(self.at(place))),
+            listing: Some(listing),
+            ..self
         }
     }
 }
@@ -143,10 +108,7 @@ impl Slot {
     pub fn opens(&self) -> u8
         ensures { result ≡ one_if_open (slot_of self.now) }
     {
-        match self {
-            Slot::Open(_) => 1,
-            _ => 0,
-        }
+        u8::from(matches!(self, Slot::Open(_)))
     }
 
     // After a reset.
@@ -174,16 +136,31 @@ impl Slot {
         }
     }
 
+    // The same further on in the answer, if one may come.
+    fn at(self, listing: Listing) -> Slot
+        ensures { slot_of result ≡ further (place_of (Some listing)) (slot_of self) }
+    {
+        match self {
+            Slot::Open(pending) => Slot::Open(pending.at(listing)),
+            Slot::GivenUp(pending) => Slot::GivenUp(pending.at(listing)),
+            Slot::Free | Slot::Answered | Slot::Lost => self,
+        }
+    }
+
     // What is told of an answer line with this number, and how the number stands afterwards.
     pub fn told(self, message: &Message<'_>) -> (Match, Slot)
         ensures { (n : ℕ) → (kind_of n result.0, slot_of result.1) ≡ tells n (slot_of self) (message_of message.now) }
     {
-        match self {
-            Slot::Free => (Match::Stray, Slot::Free),
-            Slot::Open(pending) => pending.told_open(message),
-            Slot::Answered => (Match::Stray, Slot::Answered),
-            Slot::Lost => (Match::Stray, Slot::Lost),
-            Slot::GivenUp(pending) => pending.told_late(message),
+        let (pending, more, last) = match self {
+            Slot::Open(pending) => (pending, Match::More, (Match::Last, Slot::Answered)),
+            Slot::GivenUp(pending) => (pending, Match::Late, (Match::LateLast, Slot::Free)),
+            Slot::Free | Slot::Answered | Slot::Lost => return (Match::Stray, self),
+        };
+        match pending.step(message) {
+            None => (Match::Stray, self),
+            Some(Step::NotNext) => (Match::Misplaced, self),
+            Some(Step::Final) => last,
+            Some(Step::Onward(listing)) => (more, self.at(listing)),
         }
     }
 }

@@ -1,20 +1,20 @@
 // The ten numbers of a link, and the one last given.
-ghost use Rattle.std.specs.Prelude.{◌≡◌, ℕ, ◌+◌, ◌<◌, ◌≤◌, Some, None, ◌≢◌};
+ghost use Rattle.std.specs.Prelude.{◌≡◌, ℕ, ◌+◌, ◌<◌, ◌≤◌};
 ghost use Rattle.line.specs.Lines.{meant};
 ghost use Rattle.line.specs.Meanings.{message_of};
-ghost use Rattle.life.specs.Link.{is_free, is_open, Put, FirstFree, Settles, Told, after_reset, count_open};
+ghost use Rattle.life.specs.Link.{is_free, is_open, Put, Settles, Told, after_reset, count_open};
 ghost use Rattle.numbers.specs.Ours.{ours};
 ghost use Rattle.numbers.specs.Slots.{pending_of, outcome_of, IfForeign, kind_of, tells};
-ghost use Rattle.numbers.specs.Ten.{slots_of};
+ghost use Rattle.numbers.specs.Ten.{slots_of, NextFree};
 
 use crate::slot::{Match, Outcome, Pending, Slot};
 use line::Message;
 
-const TEN: usize = 10;
+const TEN: u8 = 10;
 
 #[derive(Drop)]
 pub struct Numbers {
-    slots: [Slot; TEN],
+    slots: [Slot; 10],
     recent: u8,
 }
 
@@ -25,22 +25,18 @@ impl Numbers {
         ensures recent { result.recent ≡ 9 }
     {
         Numbers {
-            slots: [Slot::Free; TEN],
+            slots: [Slot::Free; 10],
             recent: 9,
         }
     }
 
     // The first free number after the one last given, with 0 after 9.
     pub fn next_free(&self) -> Option<u8>
-        ensures { elim result [ Some n ↦ (n < 10) × FirstFree (slots_of self.now) self.now.recent n | None ↦ ((k : ℕ) → k < 10 → slots_of self.now k ≢ is_free) ] }
+        ensures { NextFree (slots_of self.now) self.now.recent result }
     {
-        for i in 0..TEN {
-            let n = (usize::from(self.recent) + 1 + i) % TEN;
-            if self.slots[n].is_free() {
-                return Some(n as u8);
-            }
-        }
-        None
+        (0..TEN)
+            .map(|i| (self.recent % TEN + 1 + i) % TEN)
+            .find(|n| self.slots[usize::from(*n)].is_free())
     }
 
     // The number n is open, with this command, and is the one last given; a number beyond 9 changes nothing.
@@ -49,9 +45,8 @@ impl Numbers {
         ensures recent { n < 10 → self.new.recent ≡ n }
         ensures beyond { 10 ≤ n → self.new ≡ self.old }
     {
-        let at = usize::from(n);
-        if at < TEN {
-            self.slots[at] = Slot::Open(pending);
+        if n < TEN {
+            self.slots[usize::from(n)] = Slot::Open(pending);
             self.recent = n;
         }
     }
@@ -62,10 +57,10 @@ impl Numbers {
         ensures recent { self.new.recent ≡ self.old.recent }
         ensures foreign { IfForeign result (self.new ≡ self.old) }
     {
-        let at = usize::from(n);
-        if at >= TEN {
+        if n >= TEN {
             return Outcome::Foreign;
         }
+        let at = usize::from(n);
         let (outcome, slot) = self.slots[at].settled();
         self.slots[at] = slot;
         outcome
@@ -79,10 +74,10 @@ impl Numbers {
         ensures beyond { 10 ≤ n → self.new ≡ self.old }
         ensures recent { self.new.recent ≡ self.old.recent }
     {
-        let at = usize::from(n);
-        if at >= TEN {
+        if n >= TEN {
             return Match::Stray;
         }
+        let at = usize::from(n);
         let (told, slot) = self.slots[at].told(message);
         self.slots[at] = slot;
         told
@@ -94,10 +89,10 @@ impl Numbers {
         ensures slots { (n : ℕ) → slots_of self.new n ≡ after_reset (slots_of self.old n) }
         ensures recent { self.new.recent ≡ self.old.recent }
     {
-        let mut count: u8 = 0;
-        for i in 0..TEN {
-            count += self.slots[i].opens();
-            self.slots[i] = self.slots[i].reset();
+        let mut count = 0;
+        for slot in &mut self.slots {
+            count += slot.opens();
+            *slot = slot.reset();
         }
         count
     }

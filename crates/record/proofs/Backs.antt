@@ -15,7 +15,7 @@ use Rattle.record.specs.declared.mode.PlayMode.{PlayMode}
 use Rattle.record.specs.declared.mode.PlayMode.TheVariants.{NothingPlaying, Paused, Playing, ForwardScan, ReverseScan}
 use Rattle.record.specs.declared.play_status.PlayStatus.{PlayStatus}
 use Rattle.record.specs.declared.play_status_write.Rows.{Rows}
-use Rattle.record.specs.Numbers.{spelled_on, numeral, at_most, counted, in_digits, width_of, in_count}
+use Rattle.numeral.specs.Numbers.{spelled_on, numeral, at_most, counted, in_digits, width_of, in_count}
 
 -- ---- numbers
 is_digit : (d : ℕ) → d < 10 → digit (48 + d) ≡ true

@@ -1,5 +1,4 @@
 pub mod Places
-pub mod Numerals
 pub mod Texts
 pub mod Fitting
 pub mod Lying

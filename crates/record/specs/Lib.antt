@@ -1,5 +1,4 @@
 -- Records: what the fields of a status message mean, and how they are written.
-pub mod Numbers
 pub mod Records
 pub mod Reads
 pub mod Writes

@@ -5,7 +5,7 @@ use Rattle.line.specs.Lines.{Message}
 use Rattle.line.specs.declared.fault.Fault.{Fault}
 use Rattle.line.specs.declared.fault.Fault.TheVariants.{ShortBuffer, RecordForm}
 use Rattle.writer.specs.Writing.{is_answer}
-use Rattle.record.specs.Numbers.{numeral, at_most, counted}
+use Rattle.numeral.specs.Numbers.{numeral, at_most, counted}
 use Rattle.record.specs.declared.mode.PlayMode.{PlayMode}
 use Rattle.record.specs.declared.mode.PlayMode.TheVariants.{NothingPlaying, Paused, Playing, ForwardScan, ReverseScan}
 use Rattle.record.specs.declared.play_status.PlayStatus.{PlayStatus}

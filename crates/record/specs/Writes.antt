@@ -6,7 +6,7 @@ use Rattle.line.specs.declared.fault.Fault.{Fault}
 use Rattle.line.specs.declared.fault.Fault.TheVariants.{RecordForm}
 use Rattle.writer.specs.Writing.{Opened, with_fields, all_fault}
 use Rattle.writer.specs.declared.page.Writer.{Writer}
-use Rattle.record.specs.Numbers.{in_digits, in_count}
+use Rattle.numeral.specs.Numbers.{in_digits, in_count}
 use Rattle.record.specs.Records.{field_of, texts, play_status, title_name, overview}
 use Rattle.record.specs.declared.mode.PlayMode.{PlayMode}
 use Rattle.record.specs.declared.mode.PlayMode.TheVariants.{NothingPlaying, Paused, Playing, ForwardScan, ReverseScan}

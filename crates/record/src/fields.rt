@@ -6,9 +6,9 @@ ghost use Rattle.writer.specs.Writing.{is_answer};
 ghost use Rattle.record.specs.Records.{same_bytes, is_kind, field_of, number_in, count_in};
 ghost use Rattle.record.specs.Reads.{ReadBelow};
 
-use crate::number::{count, numeral};
 use escape::resolve;
 use line::{Fault, Message};
+use numeral::{field_count, field_number};
 
 // The longest name of a record.
 const NAME_MAX: usize = 23;
@@ -94,12 +94,12 @@ pub(crate) fn number_at(message: &Message, place: usize, width: usize) -> Result
     ensures value { result ≡ number_in (message_of message.now) place width }
     ensures small { ReadBelow (10 ^ width) result }
 {
-    numeral(field_at(message, place), width).ok_or(Fault::RecordForm(place))
+    field_number(field_at(message, place), width).ok_or(Fault::RecordForm(place))
 }
 
 pub(crate) fn count_at(message: &Message, place: usize) -> Result<u16, Fault>
     requires { place ≤ 8 }
     ensures { result ≡ count_in (message_of message.now) place }
 {
-    count(field_at(message, place)).ok_or(Fault::RecordForm(place))
+    field_count(field_at(message, place)).ok_or(Fault::RecordForm(place))
 }

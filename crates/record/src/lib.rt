@@ -1,11 +1,9 @@
 // The three status messages of a player as records, read from its messages and written into its lines.
 #![tactic(auto)]
 
-mod digits;
 mod fields;
 mod laws;
 mod mode;
-mod number;
 mod overview;
 mod play_status;
 mod play_status_write;

@@ -1,7 +1,7 @@
 // PLAY_STATUS: what the player plays, how, and where it is in title and chapter. Lengths and locations are in seconds.
 ghost use Rattle.std.specs.Prelude.{◌≡◌, IfOk, Some, None};
 ghost use Rattle.line.specs.Meanings.{message_of};
-ghost use Rattle.record.specs.Numbers.{at_most};
+ghost use Rattle.numeral.specs.Numbers.{at_most};
 ghost use Rattle.record.specs.Records.{mode_in, speed_in, play_status};
 ghost use Rattle.record.specs.Reads.{Below, ReadBelow};
 ghost use Rattle.record.specs.Writes.{wrong_status};

@@ -1,8 +1,8 @@
 -- Bytes put behind those that lie at the front of a buffer, and the line that they make.
-use Rattle.std.proofs.Common.{◌≡◌, ℕ, ◌+◌, ◌-◌, ◌<◌, ◌≤◌, Bool, true, false, leb, List, [], ◌∷◌, ◌++◌, length, take, drop, Some, None, sym, refl, ap, ◌∙◌, subst, append_assoc, arith, length-append, length-drop, drop-drop, take_at, drop_at}
-use native.Mathlib.Nat.{sub-zero}
+use Rattle.std.proofs.Common.{◌≡◌, ℕ, ◌+◌, ◌/◌, ◌%◌, ◌<◌, ◌≤◌, true, false, leb, List, [], ◌∷◌, ◌++◌, length, take, drop, Some, None, sym, ap, ◌∙◌, subst, append_assoc, arith, length-append, length-drop, drop-drop, take_at, drop_at}
 use borrow.Rule.Slice.PartMut.{put_mid}
 use Rattle.std.proofs.lemmas.Bool.{le-leb, lt-leb, leb-true, leb-false}
+use Rattle.numeral.specs.Numbers.{in_digits}
 use Rattle.escape.specs.Resolving.{fitting, written}
 use Rattle.line.specs.Forms.{check_of}
 use Rattle.writer.specs.Canonical.{in_two_digits, head_text, closed}
@@ -27,13 +27,20 @@ lies_put was l out bs ys at k h same size o =
       room = ap length held ∙ length-append (l ++ bs) rest ∙ omega (arith, length-drop (length (l ++ bs)) was, o.room);
     }
 
+in_two : (n : ℕ) → n < 100 → in_digits 2 n ≡ in_two_digits n
+unfolding in_digits
+in_two n h =
+    let tens : n / 10 % 10 ≡ n / 10 = omega arith in
+    let units : n / 1 % 10 ≡ n % 10 = omega arith in
+    cc
+
 -- the slash, and behind it the two digits of what was summed
-pub lies_checked : (was l out new ys : List ℕ) (at n s : ℕ) → ys ≡ in_two_digits s → at ≡ length (l ++ (47 ∷ [])) → s ≡ check_of (take (at - 0) out) → Lies was (l ++ (47 ∷ [])) out at
-    → Lies was ((l ++ (47 ∷ [])) ++ ys) new n → Lies was (closed l) new n
-lies_checked was l out new ys at n s two len e o done =
-    let line : take (at - 0) out ≡ l ++ (47 ∷ []) = rw (sub-zero at) (ap (take at) o.held ∙ take_at (l ++ (47 ∷ [])) _ at (sym len)) in
+pub lies_checked : (was l out new ys : List ℕ) (at n s : ℕ) → ys ≡ in_digits 2 s → s ≡ check_of (take at out) → Lies was (l ++ (47 ∷ [])) out at → Lies was ((l ++ (47 ∷ [])) ++ ys) new n → Lies was (closed l) new n
+lies_checked was l out new ys at n s digits e o done =
+    let small : s < 100 = omega arith in
+    let line : take at out ≡ l ++ (47 ∷ []) = ap (take at) o.held ∙ take_at (l ++ (47 ∷ [])) _ at (sym o.len) in
     let is : s ≡ check_of (l ++ (47 ∷ [])) = e ∙ ap check_of line in
-    let text : (l ++ (47 ∷ [])) ++ ys ≡ closed l = ap (λ (x : List ℕ). (l ++ (47 ∷ [])) ++ x) two ∙ append_assoc l (47 ∷ []) (in_two_digits s) ∙ ap (λ (k : ℕ). l ++ (47 ∷ in_two_digits k)) is in
+    let text : (l ++ (47 ∷ [])) ++ ys ≡ closed l = ap (λ (x : List ℕ). (l ++ (47 ∷ [])) ++ x) (digits ∙ in_two s small) ∙ append_assoc l (47 ∷ []) (in_two_digits s) ∙ ap (λ (k : ℕ). l ++ (47 ∷ in_two_digits k)) is in
     subst (λ (x : List ℕ). Lies was x new n) text done
 
 -- ---- the whole line
@@ -55,23 +62,3 @@ module _ (a b was : List ℕ) (d : ℕ) (room : length was ≡ 1024) where
       let k = composed_length a b d in
       let some : Some n ≡ Some (length (composed a d b)) = ap (λ (i : ℕ). Some i) o.len in
       (some ∙ rw (le-leb (length (composed a d b)) 1024 (omega arith)), o.held ∙ rw (le-leb (length (composed a d b)) (length was) (omega arith)))
-
--- the line again, from the buffer's front
-module _ (l was out : List ℕ) (room : length was ≡ 1024) (e : out ≡ written l was) where
-  pub front_is : (n : ℕ) → Some n ≡ fitting l 1024 → take (n - 0) out ≡ l
-  front_is n some = go (leb (length l) 1024) refl
-    where
-      go : (t : Bool) → leb (length l) 1024 ≡ t → take (n - 0) out ≡ l
-      go true p =
-          let h = leb-true (length l) 1024 p in
-          let k : Some n ≡ Some (length l) = some ∙ rw p in
-          let len : length l ≡ n = cc in
-          rw (sub-zero n) (ap (take n) (e ∙ rw (le-leb (length l) (length was) (omega arith))) ∙ take_at l (drop (length l) was) n len)
-      go false p = let k : Some n ≡ None = some ∙ rw p in let z : ◌≡◌ {A = ℕ} 0 1 = cc in absurd (omega arith)
-
-pub is_long : (l : List ℕ) → None ≡ fitting l 1024 → 1024 < length l
-is_long l none = go (leb (length l) 1024) refl
-  where
-    go : (t : Bool) → leb (length l) 1024 ≡ t → 1024 < length l
-    go true p = let k : None ≡ Some (length l) = none ∙ rw p in let z : ◌≡◌ {A = ℕ} 0 1 = cc in absurd (omega arith)
-    go false p = leb-false (length l) 1024 p

@@ -7,6 +7,6 @@ mod preparing;
 #[cfg(test)]
 mod tests;
 
-pub use composing::compose;
+pub use composing::Request;
 pub use laws::{digit_is_untold, requests_can_be_sent};
-pub use preparing::{Prepared, prepare};
+pub use preparing::Prepared;

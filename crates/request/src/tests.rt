@@ -1,15 +1,12 @@
 // Requests that are written, and requests that are refused, by number and place.
-use crate::prepare;
-use numbers::same_bytes;
+use crate::Request;
 use std::test::Fail;
 
 fn writes(address: &[u8], number: u8, body: &[u8], line: &[u8]) -> bool {
+    let request = Request { address, body };
     let mut out = [0u8; 1024];
-    match prepare(address, number, body, &mut out) {
-        Ok(prepared) => {
-            let len = prepared.length;
-            len <= 1024 && same_bytes(&out[0..len], line)
-        }
+    match request.prepare(number, &mut out) {
+        Ok(prepared) => prepared.length <= 1024 && &out[..prepared.length] == line,
         Err(_) => false,
     }
 }
@@ -29,8 +26,9 @@ fn written_in_one_way(rt: HostRuntime) {
 }
 
 fn refusal(address: &[u8], number: u8, body: &[u8]) -> Option<(u8, Option<usize>)> {
+    let request = Request { address, body };
     let mut out = [0u8; 1024];
-    match prepare(address, number, body, &mut out) {
+    match request.prepare(number, &mut out) {
         Ok(_) => None,
         Err(fault) => Some((fault.number(), fault.place())),
     }
@@ -50,7 +48,11 @@ fn refused_as_a_line(rt: HostRuntime) {
 #[test]
 fn refused_for_the_buffer(rt: HostRuntime) -> Result<(), Fail> {
     let mut out = [0u8; 1023];
-    match prepare(b"01", 1, b"DOWN:", &mut out) {
+    let request = Request {
+        address: b"01",
+        body: b"DOWN:",
+    };
+    match request.prepare(1, &mut out) {
         Ok(_) => {
             assert!(rt; false);
             Ok(())

@@ -13,18 +13,18 @@ use crate::ticket::Ticket;
 use line::Fault;
 use numbers::Pending;
 use port::Port;
-use request::{Prepared, prepare};
+use request::{Prepared, Request};
 
 // Room for the longest line and its end.
 const LINE_ROOM: usize = 1025;
 
 // The line of the request's command, with the number for its mark and its end behind it, at the front of `line`.
-fn ready_line(address: &[u8], number: u8, body: &[u8], line: &mut [u8]) -> Result<Prepared, Fault>
+fn ready_line(request: Request<'_>, number: u8, line: &mut [u8]) -> Result<Prepared, Fault>
     requires { (1025 ≤ length line.old) × (number < 10) }
-    ensures { Lined (request_read address.now (48 + number) body.now) (48 + number) line.new result }
+    ensures { Lined (request_read request.address.now (48 + number) request.body.now) (48 + number) line.new result }
 {
-    let prepared = prepare(address, number, body, line)?;
-    line[prepared.length] = b'\r';
+    let prepared = request.prepare(number, line)?;
+    line[prepared.length] = b'';
     Ok(prepared)
 }
 
@@ -52,12 +52,13 @@ impl<P: Port> Link<P> {
         ensures does { Submitted (state_of P.Port.meaning self.old) address.now body.now result (state_of P.Port.meaning self.new) }
         ensures refused { OnErr result (self.new ≡ self.old) }
     {
+        let request = Request { address, body };
         let mut line = [0u8; LINE_ROOM];
         let Some(number) = self.core.numbers.next_free() else {
-            ready_line(address, 0, body, &mut line)?;
+            ready_line(request, 0, &mut line)?;
             return Err(Fault::NoNumber);
         };
-        let prepared = ready_line(address, number, body, &mut line)?;
+        let prepared = ready_line(request, number, &mut line)?;
         let (room, _) = self.port.room();
         if !has_room(prepared.length, room) {
             return Err(Fault::NoRoom);

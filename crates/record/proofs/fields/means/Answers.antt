@@ -1,7 +1,7 @@
 use Rattle.std.proofs.Common.{ℕ, List, replicate, ap, ◌∙◌, arith}
 use Rattle.escape.specs.Tokens.{resolved}
 use Rattle.record.specs.Records.{same_bytes}
-use Rattle.record.proofs.Numerals.{front, too_many}
+use Rattle.numeral.proofs.Numerals.{front, too_many}
 use Rattle.record.proofs.Places.{same_length}
 use Rattle.record.proofs.fields.means.Goals as goal
 

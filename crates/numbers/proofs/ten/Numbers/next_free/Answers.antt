@@ -1,15 +1,15 @@
-use Rattle.std.proofs.Common.{rules}
+use Rattle.std.proofs.Common.{refl, rules}
+use borrow.Author.Tests.{tests}
+use Rattle.std.proofs.lemmas.Iterator.{YieldsList-from_range, YieldsList-from_map}
+use Rattle.std.proofs.lemmas.Iterator.Search.{find_from_yields_List}
 use Rattle.numbers.specs.Ten.{slots_of}
-use Rattle.numbers.proofs.Standing.{first_found, one_more_not_free, none_left}
+use Rattle.numbers.proofs.Standing.{place, free_in, next_found}
 use Rattle.numbers.proofs.ten.Numbers.next_free.Goals as goal
 
-pub returns-then-is_free : goal.returns-then-is_free
-unfolding slots_of
-returns-then-is_free c = first_found c.args.self.now.slots c.args.self.now.recent c.from.result c.loop-i.i c.from.ensures c.loop-i.invariant c.if-is_free.ensures
-
-pub loop-i-preserved : goal.loop-i-preserved
-unfolding slots_of
-loop-i-preserved c = one_more_not_free c.args.self.now.slots c.args.self.now.recent c.from.result c.loop-i.i c.from.ensures c.loop-i.invariant c.if-is_free.ensures
-
 pub returns : goal.returns
-returns c = none_left (slots_of c.args.self.now) c.args.self.now.recent c.loop-i.i (search rules) c.loop-i.invariant
+unfolding slots_of
+returns c =
+    next_found c.args.self.now.slots c.args.self.now.recent c.find.result
+    (find_from_yields_List (free_in c.args.self.now.slots) _ _ c.find.result c.find.ensures.ran
+    (YieldsList-from_map _ (place c.args.self.now.recent) (YieldsList-from_range 0 10 10 c.map.ensures.source refl) c.map.ensures.closure (λ x r q k. search rules))
+    (λ x b q k. search (rules, tests)))

@@ -3,10 +3,10 @@ use Rattle.numbers.specs.Ten.{slots_of}
 use Rattle.numbers.proofs.Standing.{put_at}
 use Rattle.numbers.proofs.ten.Numbers.open.Goals as goal
 
-pub returns-then-at-lt-TEN : goal.returns-then-at-lt-TEN
+pub returns-then-n-lt-TEN : goal.returns-then-n-lt-TEN
 unfolding slots_of
-returns-then-at-lt-TEN c = record {
-  slots = λ h. put_at c.args.self.now.slots c.args.n c.from-at.result _ c.from-at.ensures (search rules) (search rules);
+returns-then-n-lt-TEN c = record {
+  slots = λ h. put_at c.args.self.now.slots c.args.n c.from.result _ c.from.ensures (search rules) (search rules);
   recent = λ h. refl;
   beyond = λ h. absurd (omega arith);
 }

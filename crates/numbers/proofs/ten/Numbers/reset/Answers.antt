@@ -1,18 +1,17 @@
 use Rattle.std.proofs.Common.{refl, rules}
 use Rattle.numbers.specs.Ten.{slots_of}
-use Rattle.numbers.proofs.Standing.{reset_none, reset_more, reset_ended}
+use Rattle.numbers.proofs.Standing.{standing, reset_none, reset_more, reset_ended}
 use Rattle.numbers.proofs.ten.Numbers.reset.Goals as goal
 
-pub loop-i-init : goal.loop-i-init
-loop-i-init c = (reset_none (slots_of c.args.self.now), refl)
+pub loop-slot-init : goal.loop-slot-init
+loop-slot-init c = record { ten = search rules; upto = reset_none (standing c.args.self.now.slots) }
 
-pub loop-i-preserved : goal.loop-i-preserved
-unfolding slots_of
-loop-i-preserved c = (
-  reset_more (slots_of c.args.self.now) c.loop-i.self.slots c.loop-i.i c.loop-i.count c.opens-count.result c.reset.result (search rules) (search rules) c.loop-i.invariant.0 c.opens-count.ensures c.reset.ensures,
-  c.loop-i.invariant.1,
-)
+pub loop-slot-preserved : goal.loop-slot-preserved
+loop-slot-preserved c = record {
+  ten = search rules;
+  upto = reset_more (standing c.args.self.now.slots) c.loop-slot.slot-items c.loop-slot.slot-index c.loop-slot.count c.opens-count.result c.reset.result (search rules) (search rules) c.loop-slot.invariant.upto c.opens-count.ensures c.reset.ensures;
+}
 
 pub returns : goal.returns
 unfolding slots_of
-returns c = let e = reset_ended c.args.self.now.slots c.loop-i.self.slots c.loop-i.i c.loop-i.count (search rules) (search rules) c.loop-i.invariant.0 in record { count = e.0; slots = e.1; recent = c.loop-i.invariant.1 }
+returns c = let e = reset_ended c.args.self.now.slots c.loop-slot.slot-items c.loop-slot.slot-index c.loop-slot.count (search rules) (search rules) c.loop-slot.invariant.upto in record { count = e.0; slots = e.1; recent = refl }

@@ -4,9 +4,9 @@ use Rattle.numbers.specs.Ten.{slots_of}
 use Rattle.numbers.proofs.Standing.{past_free, settled_at, foreign_kept}
 use Rattle.numbers.proofs.ten.Numbers.settle.Goals as goal
 
-pub returns-then-at-ge-TEN : goal.returns-then-at-ge-TEN
+pub returns-then-n-ge-TEN : goal.returns-then-n-ge-TEN
 unfolding slots_of
-returns-then-at-ge-TEN c = record { slots = not_held (λ h. rw (past_free c.args.self.now.slots c.args.n (search rules)) at h) (λ i. refl); recent = refl; foreign = refl }
+returns-then-n-ge-TEN c = record { slots = not_held (λ h. rw (past_free c.args.self.now.slots c.args.n (search rules)) at h) (λ i. refl); recent = refl; foreign = refl }
 
 pub returns : goal.returns
 unfolding slots_of

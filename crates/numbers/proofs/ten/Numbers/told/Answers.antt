@@ -4,9 +4,9 @@ use Rattle.numbers.specs.Ten.{slots_of}
 use Rattle.numbers.proofs.Standing.{past_free, told_put, told_kind, told_at}
 use Rattle.numbers.proofs.ten.Numbers.told.Goals as goal
 
-pub returns-then-at-ge-TEN : goal.returns-then-at-ge-TEN
+pub returns-then-n-ge-TEN : goal.returns-then-n-ge-TEN
 unfolding slots_of
-returns-then-at-ge-TEN c = record {
+returns-then-n-ge-TEN c = record {
   slots = λ h. absurd (omega arith);
   kind = rw (past_free c.args.self.now.slots c.args.n (omega arith));
   life = λ mark small. absurd (omega arith);

@@ -4,7 +4,7 @@ use Rattle.escape.specs.Resolving.{written}
 use Rattle.line.specs.Meanings.{message_of}
 use Rattle.record.specs.Records.{field_of}
 use Rattle.record.proofs.Lying.{one_lies}
-use Rattle.record.proofs.Numerals.{front}
+use Rattle.numeral.proofs.Numerals.{front}
 use Rattle.record.proofs.title_name.TitleName.read.Goals as goal
 
 pub returns-in-Some : goal.returns-in-Some

@@ -1,7 +1,0 @@
-use Rattle.std.proofs.Common.{◌≡◌, ◌^◌, ◌<◌, drop}
-use Rattle.record.specs.Numbers.{spelled_on}
-use Rattle.record.proofs.number.value_of.Given as goal
-
--- what is left gives the number
-abbrev pub invariant-loop-d : goal.invariant-loop-d
-invariant-loop-d l = (l.n < 10 ^ l.d-index) × (spelled_on l.n (drop l.d-index l.digits) ≡ spelled_on 0 l.digits)
