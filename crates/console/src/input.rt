@@ -11,16 +11,9 @@ const INPUT_MAX: usize = 65536;
 pub fn first_bytes(rt: &HostRuntime) -> anyhow::Result<Vec<u8>>
     ensures { IfOk result (λ bytes. vec_len bytes ≤ 65536) }
 {
-    let mut bytes = vec![in rt.alloc(); 0; INPUT_MAX]?;
-    let mut stdin = rt.stdin();
-    let mut len: usize = 0;
-    for _ in 0..INPUT_MAX {
-        let came = stdin.read(&mut bytes[len..])?;
-        if came == 0 {
-            break;
-        }
-        len += came;
-    }
-    bytes.truncate(len);
+    let mut bytes = Vec::new(rt.alloc());
+    rt.stdin().take(INPUT_MAX as u64).read_to_end(&mut bytes)?;
+    // nothing is longer already; what `read_to_end` promises does not say so
+    bytes.truncate(INPUT_MAX);
     Ok(bytes)
 }

@@ -1,4 +1,3 @@
 pub mod Ends
 pub mod Parts
-pub mod Same
 pub mod Others

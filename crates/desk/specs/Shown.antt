@@ -4,17 +4,11 @@ use Rattle.escape.specs.Spelling.{spelling}
 use Rattle.line.specs.Meanings.{number_of, place_of, layer_of}
 use Rattle.line.specs.declared.fault.Fault.{Fault}
 use Rattle.line.specs.declared.fault.Layer.{Layer}
-use Rattle.line.specs.declared.fault.Layer.TheVariants.{Line, Parts, Body, Record}
+use Rattle.line.specs.Shown.{layer_name}
 use Rattle.link.specs.Shown.{pumped_text}
 use Rattle.numbers.specs.Slots.{outcome_name}
 use Rattle.desk.specs.declared.row.Row.{Row}
 use Rattle.desk.specs.declared.row.Row.TheVariants.{Ticket, Refused, Pumped, Settled, NoTicket, Reset, Arrived, Departed, Clear, Unknown}
-
-abbrev pub layer_name : Layer → List ℕ
-layer_name Line = codes "line"
-layer_name Parts = codes "parts"
-layer_name Body = codes "body"
-layer_name Record = codes "record"
 
 -- the number, and the place and layer if the fault has both
 abbrev pub refused_at : ℕ → Option ℕ → Option Layer → List ℕ

@@ -1,7 +1,7 @@
 // A desk: a link, and the tickets that the script holds of it.
 ghost use Rattle.std.specs.Prelude.{◌≡◌, ◌<◌, replicate, Some, None, slice_index_or, slice_set};
 ghost use Rattle.link.specs.Meanings.{state_of};
-ghost use Rattle.script.specs.Script.{submit, pump, settle, settle_other, arrive, depart};
+ghost use Rattle.script.specs.Script.{submit, pump, settle, settle_other, arrive, depart, or_unknown};
 ghost use Rattle.script.specs.Meanings.{asked};
 ghost use Rattle.desk.specs.Desks.{SettledIf, SettledAll, ObeyedBy, ObeyedApart};
 
@@ -113,10 +113,13 @@ impl<P: Port> Desk<P> {
         }
     }
 
-    // Does what is asked for, and answers its row.
-    pub fn obey(&mut self, call: Call<'_>, buffer: &mut [u8]) -> Row
-        ensures { ObeyedBy P.Port.meaning self.old self.new buffer.old buffer.new (asked call.entry) result }
+    // Does what is asked for, if that is known, and answers its row.
+    pub fn obey(&mut self, call: Option<Call<'_>>, buffer: &mut [u8]) -> Row
+        ensures { ObeyedBy P.Port.meaning self.old self.new buffer.old buffer.new (or_unknown call.entry asked) result }
     {
+        let Some(call) = call else {
+            return Row::Unknown;
+        };
         match call {
             Call::Submit { address, body } => self.submit(address, body),
             Call::Pump(n) => self.pump(n, buffer),
@@ -129,7 +132,6 @@ impl<P: Port> Desk<P> {
                 self.link.clear(value);
                 Row::Clear(value)
             }
-            Call::Unknown => Row::Unknown,
         }
     }
 

@@ -2,32 +2,21 @@
 ghost use Rattle.std.specs.Prelude.{◌≡◌, ◌<◌, length};
 ghost use Rattle.desk.specs.Lines.{Ends, without_return, FirstLine, Opens, silent};
 
-use numbers::same_bytes;
-
 // Where the first line ends.
 fn line_end(script: &[u8]) -> Option<usize>
     ensures { Ends script.now result }
 {
-    for (i, b) in script.iter().enumerate() {
-        if *b == b'\n' {
-            return Some(i);
-        }
-    }
-    None
+    script.iter().position(|b| *b == b'\n')
 }
 
 // A line that was ended by 10, without the 13 that may stand before it.
 fn without_return(line: &[u8]) -> &[u8]
     ensures { result.now ≡ without_return line.now }
 {
-    let len = line.len();
-    if len == 0 {
-        return line;
+    match line {
+        [rest @ .., b'\r'] => rest,
+        _ => line,
     }
-    if line[len - 1] == b'\r' {
-        return &line[0..len - 1];
-    }
-    line
 }
 
 // The first line, without its end, and what follows it. The last line need not be ended.
@@ -36,7 +25,7 @@ pub fn first_line(script: &[u8]) -> (&[u8], &[u8])
     ensures shorter { 0 < length script.now → length result.1.now < length script.now }
 {
     match line_end(script) {
-        Some(i) => (without_return(&script[0..i]), &script[i + 1..]),
+        Some(i) => (without_return(&script[..i]), &script[i + 1..]),
         None => (script, &script[script.len()..]),
     }
 }
@@ -45,10 +34,7 @@ pub fn first_line(script: &[u8]) -> (&[u8], &[u8])
 pub fn is_silent(line: &[u8]) -> bool
     ensures { result ≡ silent line.now }
 {
-    match line {
-        [] => true,
-        [b, ..] => *b == b';',
-    }
+    matches!(line, [] | [b';', ..])
 }
 
 // What follows a first line that asks for line control; none if the first line asks for something else.
@@ -56,7 +42,7 @@ pub fn without_port(script: &[u8]) -> Option<&[u8]>
     ensures { Opens script.now result }
 {
     let (line, rest) = first_line(script);
-    if same_bytes(line, b"port controlled") {
+    if line == b"port controlled".as_slice() {
         Some(rest)
     } else {
         None

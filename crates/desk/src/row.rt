@@ -1,9 +1,9 @@
 // Rows: what is told of each call.
 ghost use Rattle.std.specs.Prelude.{◌≡◌, take, Some};
-ghost use Rattle.desk.specs.Shown.{layer_name, refusal_text, departed_text, clear_text, row_text};
+ghost use Rattle.desk.specs.Shown.{refusal_text, departed_text, clear_text, row_text};
 
 use console::Spelled;
-use line::{Fault, Layer};
+use line::Fault;
 use link::{Outcome, Pumped};
 use std::fmt;
 
@@ -33,17 +33,6 @@ pub struct Told<'a> {
     pub buffer: &'a [u8],
 }
 
-fn layer_name(layer: Layer) -> &'static str
-    ensures { result.now ≡ layer_name layer }
-{
-    match layer {
-        Layer::Line => "line",
-        Layer::Parts => "parts",
-        Layer::Body => "body",
-        Layer::Record => "record",
-    }
-}
-
 // The number of a fault, with its place and layer where it has them.
 #[derive(Clone, Copy)]
 struct Refusal(Fault);
@@ -54,10 +43,7 @@ impl fmt::Display for Refusal {
     fn fmt<W: fmt::Write>(&self, f: &mut fmt::Formatter<W>) -> fmt::Result {
         let number = self.0.number();
         match (self.0.place(), self.0.layer()) {
-            (Some(place), Some(layer)) => {
-                let layer = layer_name(layer);
-                write!(f, "REFUSED {number} {place} {layer}")
-            }
+            (Some(place), Some(layer)) => write!(f, "REFUSED {number} {place} {layer}"),
             _ => write!(f, "REFUSED {number}"),
         }
     }

@@ -19,7 +19,10 @@ fn tells_kinds_in_order(rt: HostRuntime) {
     assert!(rt; buffer.starts_with(b"01/!/000:POWER_STATE:1:/15."));
     assert!(rt; matches!(message(&buffer, 26), Some(Message::Event { .. })));
     for kind in [Kind::Notice, Kind::Stray] {
-        assert_eq!(rt; link.pump(&mut buffer), Ok(Pumped::Line { kind, length: 12 }));
+        assert_eq!(rt;
+            link.pump(&mut buffer),
+            Ok(Pumped::Line { kind, length: 12 })
+        );
     }
     assert_eq!(rt; link.pump(&mut buffer), Ok(Pumped::Dry));
     assert_eq!(rt; link.number(), 7);

@@ -1,48 +1,40 @@
--- The turns of the loops over a line's bytes.
-use Rattle.std.proofs.Common.{◌≡◌, ℕ, ◌+◌, ◌-◌, ◌<◌, ◌≤◌, Bool, true, false, eqb, List, [], ◌∷◌, ◌++◌, length, get_or, take, drop, Some, None, Option, sym, refl, ap, ◌∙◌, append_assoc, append-nil, arith, ne_eqb}
-use Rattle.std.proofs.lemmas.List.{drop_more, drop_all, take_more, take_all, take_rest}
-use Rattle.script.specs.Script.{longer, cut_word, one_digit_more, digits_after, number_to}
+-- A line cut at its first space, and the turns of the loop over a number's digits.
+use Rattle.std.proofs.Common.{◌≡◌, ℕ, ◌+◌, ◌-◌, ◌<◌, ◌≤◌, Bool, true, false, suc, zero, List, [], ◌∷◌, length, get_or, take, drop, Some, None, Option, sym, refl, ap, ◌∙◌, add-one, arith}
+use Rattle.std.specs.List.{position, position_or_len}
+use Rattle.std.proofs.lemmas.Grind.{common_steps}
+use Rattle.std.proofs.lemmas.List.{drop_more, drop_all, take_rest}
+use Rattle.std.proofs.lemmas.List.Quantifiers.{position-Some}
+use Rattle.std.proofs.lemmas.List.Sums.{fails_before_first}
+use Rattle.script.specs.Script.{is_space, longer, cut_word, one_digit_more, digits_after, number_to}
 
 -- ---- words
-abbrev Words : Type 0
-Words = List ℕ × Option (List ℕ)
+at_space : (b : ℕ) (s : List ℕ) → is_space b ≡ true → cut_word (b ∷ s) ≡ ([], Some s)
+at_space b s e = ap (λ (t : Bool). elim t [ true ↦ ([], Some s) | false ↦ longer b (cut_word s) ]) e
 
--- some bytes in front of the first word
-abbrev pub behind : List ℕ → List ℕ × Option (List ℕ) → List ℕ × Option (List ℕ)
-behind xs p = (xs ++ p.0, p.1)
+no_space : (b : ℕ) (s : List ℕ) → is_space b ≡ false → cut_word (b ∷ s) ≡ longer b (cut_word s)
+no_space b s e = ap (λ (t : Bool). elim t [ true ↦ ([], Some s) | false ↦ longer b (cut_word s) ]) e
 
-abbrev pub Passed : List ℕ → ℕ → Type 0
-Passed s i = cut_word s ≡ behind (take i s) (cut_word (drop i s))
+cut_there : (s : List ℕ) (i : ℕ) → i < length s → is_space (get_or s i 0) ≡ true → ((k : ℕ) → k < i → is_space (get_or s k 0) ≡ false) → (take i s, Some (drop (i + 1) s)) ≡ cut_word s
+cut_there [] i h is before = absurd (omega arith)
+cut_there (b ∷ s) zero h is before = sym (at_space b s is)
+cut_there (b ∷ s) (suc i) h is before =
+    let behind : drop (suc i + 1) (b ∷ s) ≡ drop (i + 1) s = ap (λ (k : ℕ). drop k (b ∷ s)) (add-one (suc i)) ∙ ap (λ (k : ℕ). drop k s) (sym (add-one i)) in
+    ap (λ (x : List ℕ). (b ∷ take i s, Some x)) behind ∙ ap (longer b) (cut_there s i (omega arith) is (λ k l. before (suc k) (omega arith))) ∙ sym (no_space b s (before zero (omega arith)))
 
-pub words_start : (s : List ℕ) → Passed s 0
-words_start s = refl
+cut_nowhere : (s : List ℕ) → ((k : ℕ) → k < length s → is_space (get_or s k 0) ≡ false) → (s, None) ≡ cut_word s
+cut_nowhere [] before = refl
+cut_nowhere (b ∷ s) before = ap (longer b) (cut_nowhere s (λ k l. before (suc k) (omega arith))) ∙ sym (no_space b s (before zero (omega arith)))
 
-at_space : (b : ℕ) (s : List ℕ) → b ≡ 32 → cut_word (b ∷ s) ≡ ([], Some s)
-at_space b s e = ap (λ (c : ℕ). cut_word (c ∷ s)) e
+pub words_here : (s : List ℕ) (i : ℕ) → position is_space s ≡ Some i → (take i s, Some (take (length s - (i + 1)) (drop (i + 1) s))) ≡ cut_word s
+words_here s i e =
+    let found = position-Some is_space s i 0 e in
+    ap (λ (x : List ℕ). (take i s, Some x)) (take_rest s (i + 1))
+    ∙ cut_there s i found.0 found.1 found.2
 
-no_space : (b : ℕ) (s : List ℕ) → (b ≡ 32 → ⊥) → cut_word (b ∷ s) ≡ longer b (cut_word s)
-no_space b s ne = go (eqb b 32) (ne_eqb b 32 ne)
-  where
-    go : (e : Bool) → e ≡ false → elim e [ true ↦ ([], Some s) | false ↦ longer b (cut_word s) ] ≡ longer b (cut_word s)
-    go false p = refl
-    go true p = let z : ◌≡◌ {A = ℕ} 0 1 = cc in absurd (omega arith)
-
-module _ (s : List ℕ) (i : ℕ) (e : Passed s i) (h : i < length s) where
-  by_byte : cut_word s ≡ behind (take i s) (cut_word (get_or s i 0 ∷ drop (i + 1) s))
-  by_byte = e ∙ ap (λ (x : List ℕ). behind (take i s) (cut_word x)) (drop_more s i 0 h)
-
-  pub words_more : (get_or s i 0 ≡ 32 → ⊥) → Passed s (i + 1)
-  words_more ne =
-      by_byte ∙ ap (behind (take i s)) (no_space (get_or s i 0) (drop (i + 1) s) ne)
-      ∙ ap (λ (x : List ℕ). (x, (cut_word (drop (i + 1) s)).1)) (sym (append_assoc (take i s) (get_or s i 0 ∷ []) (cut_word (drop (i + 1) s)).0) ∙ ap (λ (x : List ℕ). x ++ (cut_word (drop (i + 1) s)).0) (sym (take_more s i 0 h)))
-
-  pub words_here : get_or s i 0 ≡ 32 → (take (i - 0) s, Some (take (length s - (i + 1)) (drop (i + 1) s))) ≡ cut_word s
-  words_here is =
-      let front : take (i - 0) s ≡ take i s ++ [] = ap (λ (k : ℕ). take k s) (omega arith) ∙ sym (append-nil (take i s)) in
-      sym (by_byte ∙ ap (behind (take i s)) (at_space (get_or s i 0) (drop (i + 1) s) is) ∙ ap (λ (x : List ℕ). (x, Some (drop (i + 1) s))) (sym front) ∙ ap (λ (x : List ℕ). (take (i - 0) s, Some x)) (sym (take_rest s (i + 1))))
-
-pub words_none : (s : List ℕ) (i : ℕ) → Passed s i → length s ≤ i → (s, None) ≡ cut_word s
-words_none s i e h = sym (e ∙ ap (λ (x : List ℕ). behind (take i s) (cut_word x)) (drop_all i s h) ∙ ap (λ (x : List ℕ). (x, None)) (append-nil (take i s) ∙ take_all i s h))
+pub words_none : (s : List ℕ) → position is_space s ≡ None → (s, None) ≡ cut_word s
+words_none s e =
+    let nowhere : length s ≤ position_or_len is_space s = grind (arith, common_steps) in
+    cut_nowhere s (λ k l. fails_before_first is_space s k 0 (omega arith))
 
 -- ---- numbers
 none_after : (most : ℕ) (ds : List ℕ) → digits_after most None ds ≡ None

@@ -2,10 +2,10 @@
 use Rattle.std.specs.Prelude.{ℕ, List, Option}
 use Rattle.std.specs.Borrow.{Bor}
 use Rattle.std.specs.Option.{option_map}
-use Rattle.script.specs.Script.{submit, pump, settle, settle_other, reset, arrive, depart, clear, unknown}
+use Rattle.script.specs.Script.{submit, pump, settle, settle_other, reset, arrive, depart, clear}
 use Rattle.script.specs.Script.{Call as Asked}
 use Rattle.script.specs.declared.call.Call.{Call}
-use Rattle.script.specs.declared.call.Call.TheVariants.{Submit, Pump, Settle, SettleOther, Reset, Arrive, Depart, Clear, Unknown}
+use Rattle.script.specs.declared.call.Call.TheVariants.{Submit, Pump, Settle, SettleOther, Reset, Arrive, Depart, Clear}
 
 abbrev pub asked : Call → Asked
 asked (Submit address body) = submit address.now body.now
@@ -16,7 +16,6 @@ asked Reset = reset
 asked (Arrive text) = arrive text.now
 asked (Depart n) = depart n
 asked (Clear value) = clear value
-asked Unknown = unknown
 
 abbrev pub behind : Option (Bor (List ℕ)) → Option (List ℕ)
 behind o = option_map (λ x. x.now) o

@@ -1,7 +1,7 @@
 -- A line of a script is a word, and for some calls one or two words more: words are separated by one space, and the last may hold spaces.
-use Rattle.std.specs.Prelude.{ℕ, ◌+◌, ◌-◌, ◌*◌, Bool, true, false, cond, List, [], ◌∷◌, Some, None, codes, Option, ◌==◌, nat_le}
+use Rattle.std.specs.Prelude.{ℕ, ◌+◌, ◌-◌, ◌*◌, Bool, true, false, cond, List, [], ◌∷◌, Some, None, codes, Option, ◌==◌, nat_eq, nat_le}
 use Rattle.escape.specs.Tokens.{digit, tokens, first_broken}
-use Rattle.numbers.specs.Browse.{same_bytes}
+use Rattle.std.specs.Cmp.Lexicographic.{pointwise}
 
 pub data Call : Type 0 where
   submit : List ℕ → List ℕ → Call
@@ -17,13 +17,19 @@ pub data Call : Type 0 where
   unknown : Call
 
 -- ---- words
+abbrev pub is_space : ℕ → Bool
+is_space b = b == 32
+
+abbrev pub same_bytes : List ℕ → List ℕ → Bool
+same_bytes = pointwise nat_eq
+
 abbrev pub longer : ℕ → List ℕ × Option (List ℕ) → List ℕ × Option (List ℕ)
 longer b p = (b ∷ p.0, p.1)
 
 -- what stands before the first space, and what stands behind it if there is one
 abbrev pub cut_word : List ℕ → List ℕ × Option (List ℕ)
 cut_word [] = ([], None)
-cut_word (b ∷ s) = elim (b == 32) [ true ↦ ([], Some s) | false ↦ longer b (cut_word s) ]
+cut_word (b ∷ s) = elim (is_space b) [ true ↦ ([], Some s) | false ↦ longer b (cut_word s) ]
 
 -- ---- numbers: one or more digits, at most `most`
 abbrev pub one_digit_more : ℕ → ℕ → Option ℕ → Option ℕ

@@ -1,18 +1,24 @@
 // Words and numbers of a line.
 ghost use Rattle.std.specs.Prelude.{◌≡◌, ◌≤◌, Some, None};
-ghost use Rattle.script.specs.Script.{cut_word, number_to, one_digit_more};
+ghost use Rattle.std.specs.List.{position};
+ghost use Rattle.script.specs.Script.{is_space, cut_word, number_to, one_digit_more};
 ghost use Rattle.script.specs.Meanings.{split};
+
+// Where the first space stands.
+fn space_in(line: &[u8]) -> Option<usize>
+    ensures { result ≡ position is_space line.now }
+{
+    line.iter().position(|b| *b == b' ')
+}
 
 // What stands before the first space, and what stands behind it.
 pub(crate) fn split_word(line: &[u8]) -> (&[u8], Option<&[u8]>)
     ensures { split result ≡ cut_word line.now }
 {
-    for (i, b) in line.iter().enumerate() {
-        if *b == b' ' {
-            return (&line[0..i], Some(&line[i + 1..]));
-        }
+    match space_in(line) {
+        Some(i) => (&line[..i], Some(&line[i + 1..])),
+        None => (line, None),
     }
-    (line, None)
 }
 
 // The most that a size in a script may be.
@@ -27,7 +33,7 @@ fn with_digit(value: usize, d: u8) -> Option<usize>
     match d {
         b'0'..=b'9' => {
             let more = value * 10 + (d - b'0') as usize;
-            if more <= SIZE_MAX { Some(more) } else { None }
+            (more <= SIZE_MAX).then_some(more)
         }
         _ => None,
     }
@@ -42,10 +48,7 @@ pub(crate) fn size(digits: &[u8]) -> Option<usize>
     }
     let mut value = 0;
     for d in digits {
-        let Some(more) = with_digit(value, *d) else {
-            return None;
-        };
-        value = more;
+        value = with_digit(value, *d)?;
     }
     Some(value)
 }

@@ -1,5 +1,5 @@
 -- What a tape means as a port.
-use Rattle.std.specs.Prelude.{ℕ, ◌-◌, true, false, List, [], vec_items, vec_len}
+use Rattle.std.specs.Prelude.{◌≡◌, ℕ, ◌-◌, true, false, List, [], vec_items, vec_len}
 use Rattle.byte_slices.specs.Parts.{part}
 use Rattle.port.specs.Port.{Meaning}
 use Rattle.tape.specs.declared.tape.Tape.{Tape}
@@ -10,12 +10,16 @@ use Rattle.tape.specs.declared.tape.Tape.{Tape}
 abbrev pub tape : Tape → Meaning
 tape t = record {
   incoming = part (vec_items t.recording) t.played (vec_len t.recording);
-  outgoing = part (vec_items t.out) t.sent t.filled;
+  outgoing = part (vec_items t.out) t.sent (vec_len t.out);
   room_in = 0;
-  room_out = vec_len t.out - t.filled;
+  room_out = t.places - vec_len t.out;
   heeds = false;
   clear = t.clear;
 }
+
+-- A call kept the room to write.
+abbrev pub KeepsPlaces : Tape → Tape → Type 0
+KeepsPlaces before after = (tape after).room_out ≡ (tape before).room_out
 
 -- A new tape, with a recording to play and so many places to write.
 abbrev pub blank : List ℕ → ℕ → Meaning

@@ -24,7 +24,7 @@ fn ready_line(request: Request<'_>, number: u8, line: &mut [u8]) -> Result<Prepa
     ensures { Lined (request_read request.address.now (48 + number) request.body.now) (48 + number) line.new result }
 {
     let prepared = request.prepare(number, line)?;
-    line[prepared.length] = b'';
+    line[prepared.length] = b'\r';
     Ok(prepared)
 }
 

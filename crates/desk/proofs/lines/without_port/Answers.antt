@@ -1,9 +1,9 @@
-use Rattle.std.proofs.Common.{ℕ, List, sym, subst}
+use Rattle.std.proofs.Common.{ℕ, List, codes, subst, rules}
+use Rattle.std.specs.Cmp.Lexicographic.{same_text}
 use Rattle.desk.specs.Lines.{FirstLine}
-use Rattle.desk.proofs.Same.{same_only}
 use Rattle.desk.proofs.lines.without_port.Goals as goal
 
-pub returns-then-same_bytes : goal.returns-then-same_bytes
-returns-then-same_bytes c =
+pub returns-then-eq : goal.returns-then-eq
+returns-then-eq c =
     let P : List ℕ → Type 0 = λ l. FirstLine c.args.script.now l c.first_line.result.1.now in
-    subst P (same_only _ _ (sym c.if-same_bytes.ensures)) c.first_line.ensures.line
+    subst P (same_text _ (codes "port controlled") (search rules)) c.first_line.ensures.line
