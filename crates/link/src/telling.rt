@@ -23,15 +23,6 @@ fn read_answer(line: &[u8]) -> Result<Message<'_>, Fault>
     read(Side::Answer, line)
 }
 
-fn mark_in(message: &Message<'_>) -> char
-    ensures { result ≡ (message_of message.now).mark }
-{
-    match message {
-        Message::Event { .. } => '!',
-        Message::Answer { mark, .. } | Message::Command { mark, .. } => *mark,
-    }
-}
-
 fn number_in(mark: char) -> Option<u8>
     ensures { result ≡ digit_number mark }
 {
@@ -72,7 +63,7 @@ fn tell(message: &Message<'_>, numbers: &mut Numbers) -> Kind
     ensures told { Told ours (slots_of numbers.old) (slots_of numbers.new) (meant (message_of message.now)) (told_kind result) }
     ensures recent { numbers.new.recent ≡ numbers.old.recent }
 {
-    let mark = mark_in(message);
+    let mark = message.mark();
     let Some(number) = number_in(mark) else {
         return kind_without_number(mark);
     };

@@ -19,9 +19,9 @@ use request::{Prepared, Request};
 const LINE_ROOM: usize = 1025;
 
 // The line of the request's command, with the number for its mark and its end behind it, at the front of `line`.
-fn ready_line(request: Request<'_>, number: u8, line: &mut [u8]) -> Result<Prepared, Fault>
+fn ready_line(request: &Request<'_>, number: u8, line: &mut [u8]) -> Result<Prepared, Fault>
     requires { (1025 ≤ length line.old) × (number < 10) }
-    ensures { Lined (request_read request.address.now (48 + number) request.body.now) (48 + number) line.new result }
+    ensures { Lined (request_read request.now.address.now (48 + number) request.now.body.now) (48 + number) line.new result }
 {
     let prepared = request.prepare(number, line)?;
     line[prepared.length] = b'\r';
@@ -55,10 +55,10 @@ impl<P: Port> Link<P> {
         let request = Request { address, body };
         let mut line = [0u8; LINE_ROOM];
         let Some(number) = self.core.numbers.next_free() else {
-            ready_line(request, 0, &mut line)?;
+            ready_line(&request, 0, &mut line)?;
             return Err(Fault::NoNumber);
         };
-        let prepared = ready_line(request, number, &mut line)?;
+        let prepared = ready_line(&request, number, &mut line)?;
         let (room, _) = self.port.room();
         if !has_room(prepared.length, room) {
             return Err(Fault::NoRoom);
