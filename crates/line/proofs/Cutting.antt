@@ -55,15 +55,16 @@ module _ (line a r m s : List ℕ)
 -- by what a fourth cut finds
 pub with_fourth : (line r s : List ℕ) (a m b c summed : Bor (List ℕ)) (side : Side) (o : Option (Bor (List ℕ) × Bor (List ℕ))) (t : Bool) (cut : Option Parts)
     → a.now ∷ parts 47 r ≡ parts 47 line → m.now ∷ parts 47 s ≡ parts 47 r → line ≡ a.now ++ (47 ∷ r) → r ≡ m.now ++ (47 ∷ s)
-    → b.now ∷ parts 47 c.now ≡ parts 47 s → s ≡ b.now ++ (47 ∷ c.now) → summed.now ≡ take (length line - length c.now - 0) line
-    → halved 47 c.now o ≡ parts 47 c.now → is_some o ≡ not t → cut ≡ then_some t (record { address = a; mark = m; body = b; check = Some c; summed = summed }) → Cut side line cut
-with_fourth line r s a m b c summed side None true cut first second one two third three sums e is gave =
+    → b.now ∷ parts 47 c.now ≡ parts 47 s → s ≡ b.now ++ (47 ∷ c.now)
+    → halved 47 c.now o ≡ parts 47 c.now → is_some o ≡ not t → cut ≡ then_some t (record { address = a; mark = m; body = b; check = Some c; summed = summed })
+    → summed.now ≡ take (length line - length c.now - 0) line → Cut side line cut
+with_fourth line r s a m b c summed side None true cut first second one two third three e is gave sums =
     subst (Cut side line) (sym gave) (
       with_check line a.now r m.now s first second one two b.now c.now third three side e,
       subst (λ (x : List ℕ). Sums line (length a.now + 1 + length m.now + 1 + length b.now + 1) x (Some c.now)) (sym sums) (check_sums line a.now r m.now s first second one two b.now c.now third three),
       body_within line a.now r m.now s first second one two,
     )
-with_fourth line r s a m b c summed side None false cut first second one two third three sums e is gave = cc
-with_fourth line r s a m b c summed side (Some halves) true cut first second one two third three sums e is gave = cc
-with_fourth line r s a m b c summed side (Some halves) false cut first second one two third three sums e is gave =
+with_fourth line r s a m b c summed side None false cut first second one two third three e is gave sums = cc
+with_fourth line r s a m b c summed side (Some halves) true cut first second one two third three e is gave sums = cc
+with_fourth line r s a m b c summed side (Some halves) false cut first second one two third three e is gave sums =
     subst (Cut side line) (sym gave) (with_more line a.now r m.now s first second one two b.now c.now third three side halves.0.now halves.1.now e)

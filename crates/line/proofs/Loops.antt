@@ -45,6 +45,6 @@ invisible_list (b ∷ s) = go (visible b) (invisible_list s) (lt-ltb 0 (suc (len
 
     go : (v : Bool) → first_invisible s ≡ position (λ x. not (visible x)) s → ltb 0 (suc (length s)) ≡ true → ltb (1 + n) (suc (length s)) ≡ ltb n (length s)
         → elim v [ true ↦ further 1 (first_invisible s) | false ↦ Some 0 ]
-          ≡ cond (ltb (cond (not (not v)) (1 + n) 0) (suc (length s))) (Some (cond (not (not v)) (1 + n) 0)) None
+        ≡ cond (ltb (cond (not (not v)) (1 + n) 0) (suc (length s))) (Some (cond (not (not v)) (1 + n) 0)) None
     go true e z m = ap (further 1) e ∙ later (ltb n (length s)) ∙ ap (λ (t : Bool). cond t (Some (1 + n)) None) (sym m)
     go false e z m = ap (λ (t : Bool). cond t (Some 0) None) (sym z)

@@ -9,10 +9,7 @@ use crate::message::Side;
 pub fn is_mark(side: Side, mark: char) -> bool
     ensures { result ≡ is_mark (side_of side) mark }
 {
-    matches!(
-        (side, mark),
-        (_, '0'..='9') | (Side::Answer, '!' | '?')
-    )
+    matches!((side, mark), (_, '0'..='9') | (Side::Answer, '!' | '?'))
 }
 
 // The mark that a line's mark part is, if it is one.
