@@ -24,11 +24,8 @@ module _ (refs : List (Bor (List ℕ))) (i : ℕ) (d : Bor (List ℕ)) (h : i < 
   pub length_more : length (body_text (behind_all (take (i + 1) refs))) ≡ length (body_text (behind_all (take i refs))) + (length (spelling (get_or refs i d).now) + 1)
   length_more = ap length text_more ∙ length-append (body_text (behind_all (take i refs))) (ended (get_or refs i d).now) ∙ ap (λ (n : ℕ). length (body_text (behind_all (take i refs))) + n) (length-append (spelling (get_or refs i d).now) (58 ∷ []))
 
-  pub line_more : (l : List ℕ) → ((l ++ body_text (behind_all (take i refs))) ++ spelling (get_or refs i d).now) ++ (58 ∷ []) ≡ l ++ body_text (behind_all (take (i + 1) refs))
-  line_more l =
-      append_assoc (l ++ body_text (behind_all (take i refs))) (spelling (get_or refs i d).now) (58 ∷ [])
-      ∙ append_assoc l (body_text (behind_all (take i refs))) (ended (get_or refs i d).now)
-      ∙ ap (λ (x : List ℕ). l ++ x) (sym text_more)
+  pub line_more : (body_text (behind_all (take i refs)) ++ spelling (get_or refs i d).now) ++ (58 ∷ []) ≡ body_text (behind_all (take (i + 1) refs))
+  line_more = append_assoc (body_text (behind_all (take i refs))) (spelling (get_or refs i d).now) (58 ∷ []) ∙ sym text_more
 
   pub all_bytes_more : Bytes (behind_all (take i refs)) → AllByRecursion (λ b. b < 256) (get_or refs i d).now → Bytes (behind_all (take (i + 1) refs))
   all_bytes_more bs b = subst Bytes (sym all_more) (bytes_more (behind_all (take i refs)) (get_or refs i d).now bs b)

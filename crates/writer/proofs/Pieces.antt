@@ -17,8 +17,8 @@ use Rattle.line.proofs.Indices.{message_fields}
 use Rattle.line.specs.declared.fault.Fault.{Fault}
 use Rattle.line.specs.declared.fault.Fault.TheVariants.{TooLong, BadMark, FirstField, ShortBuffer}
 use Rattle.writer.specs.Canonical.{address_text, ended, body_text, head_text, closed, canonical, first_formed}
-use Rattle.writer.specs.Writing.{Lies}
-use Rattle.writer.specs.Rewriting.{forms_fault, line_fault, first_of_both, rewrite_fault, rewrite_answer, rewritten, respelt}
+use Rattle.writer.specs.Writing.{Lies, line_fault}
+use Rattle.writer.specs.Rewriting.{forms_fault, first_of_both, rewrite_fault, rewrite_answer, rewritten, respelt}
 use Rattle.writer.proofs.Addresses.{never}
 use Rattle.writer.proofs.Backs.{tame_first}
 use Rattle.writer.proofs.Repeating.{body_parts, canonical_length}
@@ -26,7 +26,7 @@ use Rattle.writer.proofs.Repeating.{body_parts, canonical_length}
 pub plain_piece : (b : ℕ) (ts : List Token) → (b ≡ 58 → ⊥) → spelled b ++ respelt ts ≡ respelt (plain b ∷ ts)
 plain_piece b ts other = rw (ne_eqb b 58 other)
 
-colon_piece : (b : ℕ) (ts : List Token) → b ≡ 58 → respelt (plain b ∷ ts) ≡ 58 ∷ respelt ts
+pub colon_piece : (b : ℕ) (ts : List Token) → b ≡ 58 → respelt (plain b ∷ ts) ≡ 58 ∷ respelt ts
 colon_piece b ts e = ap (λ (c : ℕ). respelt (plain c ∷ ts)) e
 
 -- the fields and the colons between them
