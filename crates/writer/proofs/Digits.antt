@@ -1,5 +1,5 @@
 -- Numbers in digits, as the check and an escape have them.
-use Rattle.std.proofs.Common.{◌≡◌, ℕ, ◌+◌, ◌*◌, ◌/◌, ◌%◌, ◌^◌, ◌<◌, List, [], ◌∷◌, arith}
+use Rattle.std.proofs.Common.{◌≡◌, ℕ, ◌+◌, ◌/◌, ◌%◌, ◌<◌, [], ◌∷◌, arith}
 use Rattle.numeral.specs.Numbers.{in_digits}
 use Rattle.writer.specs.Canonical.{in_two_digits}
 

@@ -1,6 +1,6 @@
 -- A message that was read, written again: its canonical line, or why it is refused.
 use Rattle.std.specs.Prelude.{ℕ, cond, List, [], ◌∷◌, ◌++◌, length, drop, Some, None, Ok, Err, Option, Result, ◌==◌}
-use Rattle.escape.specs.Tokens.{Token, plain, escape, broken, tokens}
+use Rattle.escape.specs.Tokens.{Token, plain, escape, broken}
 use Rattle.escape.specs.Spelling.{spelled}
 use Rattle.line.specs.Lines.{Message}
 use Rattle.line.specs.declared.fault.Fault.{Fault}

@@ -1,9 +1,9 @@
 // Writing a message that was read: its body is taken byte by byte, and each is spelled anew.
-ghost use Rattle.std.specs.Prelude.{◌≡◌, length};
+ghost use Rattle.std.specs.Prelude.{◌≡◌, ◌+◌, ◌≤◌, ◌++◌, length};
 ghost use Rattle.escape.specs.Tokens.{tokens};
-ghost use Rattle.line.specs.Meanings.{side_of, placed, message_of};
-ghost use Rattle.writer.specs.Canonical.{canonical};
-ghost use Rattle.writer.specs.Writing.{Measured, HasRoom, Pushed};
+ghost use Rattle.line.specs.Meanings.{message_of};
+ghost use Rattle.writer.specs.Canonical.{closed, canonical};
+ghost use Rattle.writer.specs.Writing.{Lies, Measured, HasRoom, Pushed, line_head};
 ghost use Rattle.writer.specs.Rewriting.{rewrite_fault, rewrite_answer, rewritten, respelt};
 
 use crate::head::Head;
@@ -11,7 +11,7 @@ use crate::lengths::{CHECK_LEN, fits, sum_within};
 use crate::page::Writer;
 use crate::spelled::spelled_len;
 use escape::{Front, first_of};
-use line::{Address, Fault, Message, Side};
+use line::{Fault, Message};
 
 // The length of a body as it is spelled anew, unless that is past the longest line.
 fn body_len(body: &[u8]) -> Result<usize, Fault>
@@ -28,34 +28,6 @@ fn body_len(body: &[u8]) -> Result<usize, Fault>
         };
         n = sum_within(n, len)?;
         rest = more;
-    }
-}
-
-fn side_of(message: &Message<'_>) -> Side
-    ensures { side_of result ≡ (message_of message.now).side }
-{
-    match message {
-        Message::Command { .. } => Side::Command,
-        Message::Answer { .. } | Message::Event { .. } => Side::Answer,
-    }
-}
-
-fn mark_of(message: &Message<'_>) -> char
-    ensures { result ≡ (message_of message.now).mark }
-{
-    match message {
-        Message::Answer { mark, .. } | Message::Command { mark, .. } => *mark,
-        Message::Event { .. } => '!',
-    }
-}
-
-fn address_of<'a>(message: &Message<'a>) -> Address<'a>
-    ensures { placed result ≡ (message_of message.now).address }
-{
-    match message {
-        Message::Answer { address, .. }
-        | Message::Event { address, .. }
-        | Message::Command { address, .. } => *address,
     }
 }
 
@@ -85,22 +57,31 @@ impl<'a> Writer<'a> {
     }
 }
 
+// Writes a line with its check to the front of `out`, where there is room for it, and answers its length.
+fn put_line(out: &mut [u8], head: Head<'_>, body: &[u8]) -> usize
+    requires buffer { length (line_head head) + length (respelt (tokens body.now)) + 3 ≤ length out.old }
+    requires line { length (line_head head) + length (respelt (tokens body.now)) + 3 ≤ 1024 }
+    ensures { Lies out.old (closed (line_head head.entry ++ respelt (tokens body.now))) out.new result }
+{
+    let mut writer = Writer::over(out);
+    writer.push_head(head);
+    writer.push_body(body);
+    writer.close()
+}
+
 // Writes the canonical line of a message that was read to the front of `out`, and answers its length.
 pub fn rewrite(message: &Message<'_>, out: &mut [u8]) -> Result<usize, Fault>
     ensures answer { result ≡ rewrite_answer (canonical (message_of message.now)) (rewrite_fault (message_of message.now) (length out.old)) }
     ensures after { out.new ≡ rewritten (canonical (message_of message.now)) out.old (rewrite_fault (message_of message.now) (length out.old)) }
 {
     let head = Head::new(
-        side_of(message),
-        address_of(message),
-        mark_of(message),
+        message.side(),
+        message.address(),
+        message.mark(),
         message.raw_field(0),
     )?;
     let body = message.body();
     let len = sum_within(head.len(), body_len(body)? + CHECK_LEN)?;
     fits(len, out.len())?;
-    let mut writer = Writer::over(out);
-    writer.push_head(head);
-    writer.push_body(body);
-    Ok(writer.close())
+    Ok(put_line(out, head, body))
 }

@@ -52,7 +52,7 @@ impl<'a> Writer<'a> {
         // the first field is spelled as it is
         self.push_all(first);
         self.push(b':');
-        self.bare = matches!(side, Side::Answer);
+        self.bare = is_answer(side);
         Ok(())
     }
 
@@ -65,6 +65,12 @@ impl<'a> Writer<'a> {
         let Writer { out, len, .. } = self;
         end(out, len)
     }
+}
+
+fn is_answer(side: Side) -> bool
+    ensures { result ≡ is_answer (side_of side) }
+{
+    matches!(side, Side::Answer)
 }
 
 // Closes the line of `len` bytes at the buffer's front, if there is one, and answers how long it is then.

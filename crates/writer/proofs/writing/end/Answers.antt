@@ -1,4 +1,4 @@
-use Rattle.std.proofs.Common.{sym, ◌∙◌, arith}
+use Rattle.std.proofs.Common.{◌∙◌, arith}
 use Rattle.writer.proofs.Digits.{in_two}
 use Rattle.writer.proofs.Growing.{lies_checked}
 use Rattle.writer.proofs.writing.end.Goals as goal

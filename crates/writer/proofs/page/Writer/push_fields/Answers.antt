@@ -1,4 +1,4 @@
-use Rattle.std.proofs.Common.{ℕ, ◌+◌, List, [], length, subst, arith, length-append, Bor}
+use Rattle.std.proofs.Common.{ℕ, ◌+◌, List, [], subst, arith, length-append, Bor}
 use Rattle.writer.specs.Writing.{Pushed}
 use Rattle.writer.proofs.Growing.{pushed_both, room_left}
 use Rattle.writer.proofs.Fields.{length_more, line_more, all_bytes_more, no_longer_than_all}
