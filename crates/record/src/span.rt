@@ -14,10 +14,6 @@ impl Span {
     pub fn of<'a>(&self, text: &'a [u8]) -> Option<&'a [u8]>
         ensures { behind result ≡ (if within self.now text.now then Some (part self.now text.now) else None) }
     {
-        if self.start <= self.end && self.end <= text.len() {
-            Some(&text[self.start..self.end])
-        } else {
-            None
-        }
+        text.get(self.start..self.end)
     }
 }
