@@ -5,6 +5,7 @@ use lib.Arith.{mod-mul}
 use Rattle.std.specs.Borrow.{Bor}
 use Rattle.std.proofs.lemmas.Bool.{le-leb, leb-true, eq-eqb}
 use Rattle.escape.specs.Tokens.{digit}
+use Rattle.escape.specs.Texts.{same_bytes}
 use Rattle.line.specs.Forms.{answer}
 use Rattle.line.specs.Reads.{behind}
 use Rattle.line.specs.Lines.{Message}
@@ -12,7 +13,7 @@ use Rattle.line.specs.declared.fault.Fault.{Fault}
 use Rattle.line.specs.declared.fault.Fault.TheVariants.{RecordForm}
 use Rattle.writer.specs.Writing.{begun, with_fields, refusal, all_fault}
 use Rattle.writer.specs.declared.page.Writer.{Writer}
-use Rattle.record.specs.Records.{same_bytes, is_kind, if_kind, field_of, else_wrong, mode_numbered, mode_of, number_in, count_in, mode_in, speed_in, texts, play_status, overview}
+use Rattle.record.specs.Records.{is_kind, if_kind, field_of, else_wrong, mode_numbered, mode_of, number_in, count_in, mode_in, speed_in, texts, play_status, overview}
 use Rattle.record.specs.Writes.{mode_number, status_fields, title_fields, overview_fields, wrong_status, unless_wrong, within, part, Adds, Written, Alone, StatusBack, TitleRead, TitleBack, OverviewRead, OverviewBack}
 use Rattle.record.specs.declared.mode.PlayMode.{PlayMode}
 use Rattle.record.specs.declared.mode.PlayMode.TheVariants.{NothingPlaying, Paused, Playing, ForwardScan, ReverseScan}

@@ -1,10 +1,11 @@
--- The fields of a message by their place, and names compared byte by byte.
-use Rattle.std.proofs.Common.{◌≡◌, ℕ, zero, suc, ◌+◌, ◌-◌, ◌<◌, ◌≤◌, Bool, true, false, not, eqb, List, [], ◌∷◌, length, get_or, drop, Some, None, Option, sym, refl, ap, ◌∙◌, arith}
+-- The fields of a message by their place, and its kind.
+use Rattle.std.proofs.Common.{slice_index_or, ◌≡◌, ℕ, zero, suc, ◌+◌, ◌-◌, ◌<◌, ◌≤◌, Bool, true, false, not, cond, eqb, List, [], ◌∷◌, length, get_or, drop, Some, None, Option, sym, refl, ap, ◌∙◌, arith}
 use lib.ListN.{length-map}
 use Rattle.std.proofs.lemmas.List.{drop_more, drop_all}
 use Rattle.std.proofs.lemmas.Bool.{eq-eqb, ne_eqb}
 use Rattle.std.specs.List.{slice_get}
 use Rattle.escape.specs.Tokens.{resolved}
+use Rattle.escape.specs.Texts.{same_bytes}
 use Rattle.line.specs.Lines.{fields_of}
 use Rattle.line.specs.Meanings.{body_fields, message_of}
 use Rattle.line.specs.Fields.{body_of, raw_fields}
@@ -13,7 +14,10 @@ use Rattle.line.proofs.Indices.{meant_none, meant_later, message_fields}
 use Rattle.std.specs.Borrow.{Bor}
 use Rattle.std.specs.Option.{unwrap_or, is_some}
 use Rattle.line.specs.Reads.{behind}
-use Rattle.record.specs.Records.{field_of}
+use Rattle.line.specs.Fields.{is_text}
+use Rattle.line.specs.Lines.{Message as Meaning}
+use Rattle.writer.specs.Writing.{is_answer}
+use Rattle.record.specs.Records.{field_of, is_kind}
 
 -- ---- by index
 nth_some : {X : Type 0} (xs : List X) (n : ℕ) (x : X) → Some x ≡ slice_get xs n → n < length xs
@@ -82,3 +86,17 @@ module _ (m : Message) where
   pub last_missing : (n : ℕ) (a : Option (Bor (List ℕ))) (r : Bool) → 1 ≤ n → false ≡ is_some a → r ≡ is_some a → behind a ≡ slice_get (raw_fields (fields_of (body_of m))) (n - 1) → r ≡ eqb (length (message_of m).fields) n
   last_missing n None r some there is ea = is ∙ fewer n some ea
   last_missing n (Some x) r some there is ea = cc
+
+-- ---- the kind of a message, by its field of index 1
+neither : (t : Bool) → cond t false false ≡ false
+neither true = refl
+neither false = refl
+
+pub kind_by_field : (name : List ℕ) (count : ℕ) (m : Meaning) → is_kind name count m ≡ cond (is_answer m.side) (cond (is_text name (slice_get m.fields 1)) (eqb (length m.fields) (count + 2)) false) false
+unfolding is_kind field_of
+kind_by_field name count m = ap (λ (t : Bool). cond (is_answer m.side) t false) (go m.fields)
+  where
+    go : (fs : List (List ℕ)) → cond (same_bytes (slice_index_or fs 1 []) name) (eqb (length fs) (count + 2)) false ≡ cond (is_text name (slice_get fs 1)) (eqb (length fs) (count + 2)) false
+    go [] = ap (λ (t : Bool). cond (same_bytes [] name) t false) (ne_eqb 0 (count + 2) (λ e. omega arith)) ∙ neither (same_bytes [] name)
+    go (x ∷ []) = ap (λ (t : Bool). cond (same_bytes [] name) t false) (ne_eqb 1 (count + 2) (λ e. omega arith)) ∙ neither (same_bytes [] name)
+    go (x ∷ y ∷ fs) = refl

@@ -1,8 +1,8 @@
 -- The three records, as they are read from a message.
-use Rattle.std.specs.Prelude.{ℕ, ◌+◌, Bool, true, false, cond, List, [], ◌∷◌, ◌++◌, length, Some, None, Ok, Err, codes, Option, Result, ◌==◌, nat_eq, nat_le, slice_index_or}
-use Rattle.std.specs.Cmp.Lexicographic.{pointwise}
+use Rattle.std.specs.Prelude.{ℕ, ◌+◌, Bool, true, false, cond, List, [], ◌∷◌, ◌++◌, length, Some, None, Ok, Err, codes, Option, Result, ◌==◌, nat_le, slice_index_or}
 use Rattle.std.specs.Option.{ok_or}
 use Rattle.escape.specs.Resolving.{written}
+use Rattle.escape.specs.Texts.{same_bytes}
 use Rattle.line.specs.Lines.{Message}
 use Rattle.line.specs.declared.fault.Fault.{Fault}
 use Rattle.line.specs.declared.fault.Fault.TheVariants.{ShortBuffer, RecordForm}
@@ -16,9 +16,6 @@ use Rattle.record.specs.declared.title_name.TitleName.{TitleName}
 use Rattle.record.specs.declared.overview.BrowseResultsOverview.{BrowseResultsOverview}
 
 -- ---- the kind of a message
-abbrev pub same_bytes : List ℕ → List ℕ → Bool
-same_bytes = pointwise nat_eq
-
 -- the field of a record, counted from 1: its name is at 0, behind the status
 unfoldable pub field_of : Message → ℕ → List ℕ
 field_of m place = slice_index_or m.fields (place + 1) []

@@ -2,28 +2,11 @@
 ghost use Rattle.std.specs.Prelude.{◌≡◌, ◌^◌, ◌≤◌, length, ◌==◌};
 ghost use Rattle.escape.specs.Tokens.{resolved};
 ghost use Rattle.line.specs.Meanings.{message_of};
-ghost use Rattle.writer.specs.Writing.{is_answer};
-ghost use Rattle.record.specs.Records.{same_bytes, is_kind, if_kind, field_of, number_in, count_in};
+ghost use Rattle.record.specs.Records.{is_kind, if_kind, field_of, number_in, count_in};
 ghost use Rattle.record.specs.Reads.{ReadBelow};
 
-use escape::resolve;
-use line::{Fault, Message};
+use line::{Fault, Message, Side};
 use numeral::{field_count, field_number};
-
-// The longest name of a record.
-const NAME_MAX: usize = 23;
-
-// Whether a field, as it stands in a line, means that name.
-fn means(raw: &[u8], name: &[u8]) -> bool
-    requires { length name.now ≤ 23 }
-    ensures { result ≡ same_bytes (resolved raw.now) name.now }
-{
-    let mut bytes = [0u8; NAME_MAX];
-    match resolve(raw, &mut bytes) {
-        Some(len) => &bytes[0..len] == name,
-        None => false,
-    }
-}
 
 #[derive(Clone, Copy)]
 pub(crate) struct Fields<'a> {
@@ -47,27 +30,20 @@ impl<'a> Fields<'a> {
         self.message.raw_field(count - 1).is_some() && self.message.raw_field(count).is_none()
     }
 
-    fn is_answer(&self) -> bool
-        ensures { result ≡ is_answer (message_of self.now.message).side }
-    {
-        match self.message {
-            Message::Answer { .. } | Message::Event { .. } => true,
-            Message::Command { .. } => false,
-        }
-    }
-
     // Whether the message is an answer of that name with so many fields behind it.
-    #[tactic(auto, unfolding(crate::specs::Records::is_kind))]
+    #[tactic(auto, using(crate::proofs::Places::kind_by_field))]
     fn are_of(&self, name: &[u8], count: usize) -> bool
-        requires { (length name.now ≤ 23) × (count ≤ 8) }
+        requires { count ≤ 8 }
         ensures { result ≡ is_kind name.now count (message_of self.now.message) }
     {
-        self.is_answer() && means(self.raw(0), name) && self.are(count + 2)
+        self.message.side() == Side::Answer
+            && self.message.field_is(1, name)
+            && self.are(count + 2)
     }
 
     // Refuses a message of another kind.
     pub(crate) fn expect(&self, name: &[u8], count: usize) -> Result<(), Fault>
-        requires { (length name.now ≤ 23) × (count ≤ 8) }
+        requires { count ≤ 8 }
         ensures { result ≡ if_kind name.now count (message_of self.now.message) (Ok tt) }
     {
         if self.are_of(name, count) {
