@@ -8,6 +8,7 @@ use Rattle.line.specs.Reads.{behind}
 use Rattle.escape.specs.Resolving.{written}
 use Rattle.line.specs.Lines.{Message}
 use Rattle.record.specs.Records.{field_of, texts}
+use Rattle.record.proofs.Texts.{there}
 use Rattle.record.specs.Spans.{Lies}
 use Rattle.record.specs.Writes.{within, part}
 use Rattle.record.specs.declared.span.Span.{Span}
@@ -24,17 +25,14 @@ lies_there s before text after buffer a b e =
       is = ap (λ (k : ℕ). take (s.end - k) (drop k buffer)) a ∙ ap (λ (l : List ℕ). take (s.end - length before) (drop (length before) l)) e ∙ cut_out before text after s.end b;
     }
 
-fits_there : (bs out : List ℕ) → length bs ≤ length out → written bs out ≡ bs ++ drop (length bs) out
-fits_there bs out h = ap (λ (t : Bool). cond t (bs ++ drop (length bs) out) out) (le-leb (length bs) (length out) h)
-
 -- a text alone, and two one behind the other
 pub one_lies : (n : ℕ) (text out buffer : List ℕ) → n ≡ length text → length text ≤ length out → buffer ≡ written text out → Lies (record { start = 0; end = n }) text buffer
-one_lies n text out buffer e h is = lies_there (record { start = 0; end = n }) [] text (drop (length text) out) buffer (omega arith) (omega arith) (is ∙ fits_there text out h)
+one_lies n text out buffer e h is = lies_there (record { start = 0; end = n }) [] text (drop (length text) out) buffer (omega arith) (omega arith) (is ∙ there text out h)
 
 module _ (m : Message) (out buffer : List ℕ) (middle end : ℕ) (a : middle ≡ length (field_of m 1)) (b : end ≡ length (texts m)) (h : length (texts m) ≤ length out) (is : buffer ≡ written (texts m) out) where
   both : buffer ≡ field_of m 1 ++ (field_of m 2 ++ drop (length (texts m)) out)
   unfolding texts
-  both = is ∙ fits_there (texts m) out h ∙ append_assoc (field_of m 1) (field_of m 2) (drop (length (texts m)) out)
+  both = is ∙ there (texts m) out h ∙ append_assoc (field_of m 1) (field_of m 2) (drop (length (texts m)) out)
 
   size : end ≡ length (field_of m 1) + length (field_of m 2)
   unfolding texts

@@ -1,7 +1,7 @@
 -- The fields of a message by their place, and its kind.
-use Rattle.std.proofs.Common.{slice_index_or, ◌≡◌, ℕ, zero, suc, ◌+◌, ◌-◌, ◌<◌, ◌≤◌, Bool, true, false, not, cond, eqb, List, [], ◌∷◌, length, get_or, drop, Some, None, Option, sym, refl, ap, ◌∙◌, arith}
+use Rattle.std.proofs.Common.{slice_index_or, ◌≡◌, ℕ, zero, suc, ◌+◌, ◌-◌, ◌≤◌, Bool, true, false, not, cond, eqb, List, [], ◌∷◌, length, Some, None, Option, sym, refl, ap, ◌∙◌, arith}
 use lib.ListN.{length-map}
-use Rattle.std.proofs.lemmas.List.{drop_more, drop_all}
+use Rattle.std.proofs.lemmas.Option.{slice_get_within, unwrap_or-slice_get}
 use Rattle.std.proofs.lemmas.Bool.{eq-eqb, ne_eqb}
 use Rattle.std.specs.List.{slice_get}
 use Rattle.escape.specs.Tokens.{resolved}
@@ -20,25 +20,10 @@ use Rattle.writer.specs.Writing.{is_answer}
 use Rattle.record.specs.Records.{field_of, is_kind}
 
 -- ---- by index
-nth_some : {X : Type 0} (xs : List X) (n : ℕ) (x : X) → Some x ≡ slice_get xs n → n < length xs
-nth_some [] n x e = let z : ◌≡◌ {A = ℕ} 0 1 = cc in absurd (omega arith)
-nth_some (y ∷ ys) zero x e = omega arith
-nth_some (y ∷ ys) (suc n) x e = let h = nth_some ys n x e in omega arith
-
-nth_none : {X : Type 0} (xs : List X) (n : ℕ) → None ≡ slice_get xs n → length xs ≤ n
-nth_none [] n e = omega arith
-nth_none (y ∷ ys) zero e = let z : ◌≡◌ {A = ℕ} 0 1 = cc in absurd (omega arith)
-nth_none (y ∷ ys) (suc n) e = let h = nth_none ys n e in omega arith
-
-get_d_some : (xs : List (List ℕ)) (n : ℕ) (x : List ℕ) → Some x ≡ slice_get xs n → x ≡ get_or xs n []
-get_d_some [] n x e = let z : ◌≡◌ {A = ℕ} 0 1 = cc in absurd (omega arith)
-get_d_some (y ∷ ys) zero x e = cc
-get_d_some (y ∷ ys) (suc n) x e = get_d_some ys n x e
-
-getD_none : (xs : List (List ℕ)) (n : ℕ) → None ≡ slice_get xs n → [] ≡ get_or xs n []
-getD_none [] n e = refl
-getD_none (y ∷ ys) zero e = let z : ◌≡◌ {A = ℕ} 0 1 = cc in absurd (omega arith)
-getD_none (y ∷ ys) (suc n) e = getD_none ys n e
+missing : {X : Type 0} (xs : List X) (n : ℕ) → None ≡ slice_get xs n → length xs ≤ n
+missing [] n e = omega arith
+missing (y ∷ ys) zero e = cc
+missing (y ∷ ys) (suc n) e = let h = missing ys n e in omega arith
 
 as_many : (o : Option (List ℕ × List (List ℕ))) → length (body_fields o) ≡ length (raw_fields o)
 as_many None = refl
@@ -49,42 +34,34 @@ module _ (m : Message) where
   sizes : length (message_of m).fields ≡ length (raw_fields (fields_of (body_of m)))
   sizes = ap length (message_fields m) ∙ as_many (fields_of (body_of m))
 
-  field_there : (raw : List ℕ) (place : ℕ) → Some raw ≡ slice_get (raw_fields (fields_of (body_of m))) (place + 1) → resolved raw ≡ field_of (message_of m) place
-  unfolding field_of
-  field_there raw place e = get_d_some (message_of m).fields (place + 1) (resolved raw) (meant_later (fields_of (body_of m)) (place + 1) raw e (λ z. omega arith) ∙ ap (λ (fs : List (List ℕ)). slice_get fs (place + 1)) (sym (message_fields m)))
-
-  field_missing : (place : ℕ) → None ≡ slice_get (raw_fields (fields_of (body_of m))) (place + 1) → [] ≡ field_of (message_of m) place
-  unfolding field_of
-  field_missing place e = getD_none (message_of m).fields (place + 1) (meant_none (fields_of (body_of m)) (place + 1) e ∙ ap (λ (fs : List (List ℕ)). slice_get fs (place + 1)) (sym (message_fields m)))
-
   -- the field of a place, or nothing
   pub field_at : (o : Option (Bor (List ℕ))) (r d : Bor (List ℕ)) (place : ℕ) → r ≡ unwrap_or o d → d.now ≡ [] → behind o ≡ slice_get (raw_fields (fields_of (body_of m))) (place + 1) → resolved r.now ≡ field_of (message_of m) place
-  field_at None r d place is z e = ap (λ (x : Bor (List ℕ)). resolved x.now) is ∙ ap resolved z ∙ field_missing place e
-  field_at (Some x) r d place is z e = ap (λ (x : Bor (List ℕ)). resolved x.now) is ∙ field_there x.now place e
-
-  fewer : (n : ℕ) → 1 ≤ n → None ≡ slice_get (raw_fields (fields_of (body_of m))) (n - 1) → false ≡ eqb (length (message_of m).fields) n
-  fewer n some e = let h = nth_none (raw_fields (fields_of (body_of m))) (n - 1) e in sym (ne_eqb (length (message_of m).fields) n (λ z. omega (arith, sizes)))
-
-  more : (n : ℕ) (f : List ℕ) → Some f ≡ slice_get (raw_fields (fields_of (body_of m))) n → false ≡ eqb (length (message_of m).fields) n
-  more n f e = let h = nth_some (raw_fields (fields_of (body_of m))) n f e in sym (ne_eqb (length (message_of m).fields) n (λ z. omega (arith, sizes)))
-
-  just_so_many : (n : ℕ) (f : List ℕ) → 1 ≤ n → Some f ≡ slice_get (raw_fields (fields_of (body_of m))) (n - 1) → None ≡ slice_get (raw_fields (fields_of (body_of m))) n → true ≡ eqb (length (message_of m).fields) n
-  just_so_many n f some e o =
-      let h = nth_some (raw_fields (fields_of (body_of m))) (n - 1) f e in
-      let k = nth_none (raw_fields (fields_of (body_of m))) n o in
-      sym (eq-eqb (length (message_of m).fields) n (omega (arith, sizes)))
+  unfolding field_of
+  field_at None r d place is z e =
+      ap (λ (x : Bor (List ℕ)). resolved x.now) is ∙ ap resolved z
+      ∙ ap (λ (x : Option (List ℕ)). unwrap_or x []) (meant_none (fields_of (body_of m)) (place + 1) e ∙ ap (λ (fs : List (List ℕ)). slice_get fs (place + 1)) (sym (message_fields m)))
+      ∙ unwrap_or-slice_get (message_of m).fields (place + 1) []
+  field_at (Some x) r d place is z e =
+      ap (λ (x : Bor (List ℕ)). resolved x.now) is
+      ∙ ap (λ (x : Option (List ℕ)). unwrap_or x []) (meant_later (fields_of (body_of m)) (place + 1) x.now e (λ z. omega arith) ∙ ap (λ (fs : List (List ℕ)). slice_get fs (place + 1)) (sym (message_fields m)))
+      ∙ unwrap_or-slice_get (message_of m).fields (place + 1) []
 
   -- by the field of the last index and that of the next
   pub last_there : (n : ℕ) (a b : Option (Bor (List ℕ))) (r : Bool) → 1 ≤ n → true ≡ is_some a → is_some b ≡ not r
       → behind a ≡ slice_get (raw_fields (fields_of (body_of m))) (n - 1) → behind b ≡ slice_get (raw_fields (fields_of (body_of m))) n → r ≡ eqb (length (message_of m).fields) n
   last_there n None b r some there next ea eb = cc
-  last_there n (Some x) None true some there next ea eb = just_so_many n x.now some ea eb
   last_there n (Some x) None false some there next ea eb = cc
   last_there n (Some x) (Some y) true some there next ea eb = cc
-  last_there n (Some x) (Some y) false some there next ea eb = more n y.now eb
+  last_there n (Some x) None true some there next ea eb =
+      let h = slice_get_within (raw_fields (fields_of (body_of m))) (n - 1) x.now (sym ea) in
+      let k = missing (raw_fields (fields_of (body_of m))) n eb in
+      sym (eq-eqb (length (message_of m).fields) n (omega (arith, sizes)))
+  last_there n (Some x) (Some y) false some there next ea eb =
+      let h = slice_get_within (raw_fields (fields_of (body_of m))) n y.now (sym eb) in sym (ne_eqb (length (message_of m).fields) n (λ z. omega (arith, sizes)))
 
   pub last_missing : (n : ℕ) (a : Option (Bor (List ℕ))) (r : Bool) → 1 ≤ n → false ≡ is_some a → r ≡ is_some a → behind a ≡ slice_get (raw_fields (fields_of (body_of m))) (n - 1) → r ≡ eqb (length (message_of m).fields) n
-  last_missing n None r some there is ea = is ∙ fewer n some ea
+  last_missing n None r some there is ea =
+      let h = missing (raw_fields (fields_of (body_of m))) (n - 1) ea in is ∙ sym (ne_eqb (length (message_of m).fields) n (λ z. omega (arith, sizes)))
   last_missing n (Some x) r some there is ea = cc
 
 -- ---- the kind of a message, by its field of index 1

@@ -11,7 +11,8 @@ put_behind : (a b out mid rest : List ℕ) (n : ℕ) → n ≡ length a → leng
     → put_mid n (length mid - n) mid rest ≡ (a ++ b) ++ drop (length (a ++ b)) out
 put_behind a b out mid rest n e h is put = rw (put, is) (same_lists _ _ (search (rules, places)) (λ i d l. grind (arith, places)))
 
-there : (bs out : List ℕ) → length bs ≤ length out → written bs out ≡ bs ++ drop (length bs) out
+-- bytes for which there is room
+pub there : (bs out : List ℕ) → length bs ≤ length out → written bs out ≡ bs ++ drop (length bs) out
 there bs out h = ap (λ (t : Bool). cond t (bs ++ drop (length bs) out) out) (le-leb (length bs) (length out) h)
 
 pub put_both : (a b out mid rest : List ℕ) (n : ℕ) → n ≡ length a → length a + length b ≤ length out → mid ≡ written a out → rest ≡ written b (take (length mid - n) (drop n mid))

@@ -8,6 +8,7 @@ ghost use Rattle.record.specs.Reads.{ReadBelow};
 use line::{Fault, Message, Side};
 use numeral::{field_count, field_number};
 
+// The message whose fields are asked for by their places.
 #[derive(Clone, Copy)]
 pub(crate) struct Fields<'a> {
     pub(crate) message: Message<'a>,
@@ -22,8 +23,8 @@ impl<'a> Fields<'a> {
         self.message.raw_field(place + 1).unwrap_or(b"")
     }
 
-    // Whether there are just so many fields, with the status and the name.
-    fn are(&self, count: usize) -> bool
+    // Whether the message has just so many fields, with its status and name.
+    fn has_just(&self, count: usize) -> bool
         requires { (1 ≤ count) × (count ≤ 10) }
         ensures { result ≡ (length (message_of self.now.message).fields == count) }
     {
@@ -32,21 +33,21 @@ impl<'a> Fields<'a> {
 
     // Whether the message is an answer of that name with so many fields behind it.
     #[tactic(auto, using(crate::proofs::Places::kind_by_field))]
-    fn are_of(&self, name: &[u8], count: usize) -> bool
+    fn is_kind(&self, name: &[u8], count: usize) -> bool
         requires { count ≤ 8 }
         ensures { result ≡ is_kind name.now count (message_of self.now.message) }
     {
         self.message.side() == Side::Answer
             && self.message.field_is(1, name)
-            && self.are(count + 2)
+            && self.has_just(count + 2)
     }
 
     // Refuses a message of another kind.
-    pub(crate) fn expect(&self, name: &[u8], count: usize) -> Result<(), Fault>
+    pub(crate) fn expect_kind(&self, name: &[u8], count: usize) -> Result<(), Fault>
         requires { count ≤ 8 }
         ensures { result ≡ if_kind name.now count (message_of self.now.message) (Ok tt) }
     {
-        if self.are_of(name, count) {
+        if self.is_kind(name, count) {
             Ok(())
         } else {
             Err(Fault::RecordForm(0))

@@ -58,7 +58,7 @@ impl BrowseResultsOverview {
         ensures lies { IfOk result (λ o. Lies o.handle (field_of (message_of message.now) 1) out.new × Lies o.title (field_of (message_of message.now) 2) out.new) }
     {
         let fields = Fields { message: *message };
-        fields.expect(b"BROWSE_RESULTS_OVERVIEW", 4)?;
+        fields.expect_kind(b"BROWSE_RESULTS_OVERVIEW", 4)?;
         let lines = fields.count(3)?;
         let total = fields.count(4)?;
         let (middle, end) = put_texts(&fields, out).ok_or(Fault::ShortBuffer)?;

@@ -51,7 +51,7 @@ impl PlayStatus {
         ensures fits { IfOk result (λ s. wrong_status s ≡ None) }
     {
         let fields = Fields { message: *message };
-        fields.expect(b"PLAY_STATUS", 8)?;
+        fields.expect_kind(b"PLAY_STATUS", 8)?;
         let mode = mode_in(&fields)?;
         let speed = speed_in(&fields)?;
         let title_number = fields.number(3, 2)?;

@@ -24,7 +24,7 @@ impl TitleName {
         ensures lies { IfOk result (λ t. Lies t.title (field_of (message_of message.now) 1) out.new) }
     {
         let fields = Fields { message: *message };
-        fields.expect(b"TITLE_NAME", 1)?;
+        fields.expect_kind(b"TITLE_NAME", 1)?;
         let end = resolve(fields.raw(1), out).ok_or(Fault::ShortBuffer)?;
         Ok(TitleName {
             title: Span { start: 0, end },

@@ -1,5 +1,5 @@
-use Rattle.std.proofs.Common.{◌≡◌, ap, ◌∙◌, arith}
-use Rattle.numeral.specs.Numbers.{counted, in_digits, in_count}
+use Rattle.std.proofs.Common.{ap, ◌∙◌, arith}
+use Rattle.numeral.specs.Numbers.{counted, in_digits}
 use Rattle.record.proofs.Backs.{count_back, count_digits}
 use Rattle.record.proofs.overview.count_digits.Goals as goal
 

@@ -1,4 +1,4 @@
-use Rattle.std.proofs.Common.{ℕ, ◌+◌, ◌≤◌, List, length, sym, refl, ap, ◌∙◌, arith}
+use Rattle.std.proofs.Common.{ℕ, ◌+◌, ◌≤◌, List, length, refl, ap, ◌∙◌, arith}
 use Rattle.escape.specs.Tokens.{resolved}
 use Rattle.escape.specs.Resolving.{written}
 use Rattle.line.specs.Meanings.{message_of}

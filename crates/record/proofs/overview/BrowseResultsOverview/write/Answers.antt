@@ -1,4 +1,4 @@
-use Rattle.std.proofs.Common.{Bool, cond, [], ◌∷◌, Some, None, codes, sym, ap, ◌∙◌}
+use Rattle.std.proofs.Common.{Bool, cond, Some, None, sym, ap, ◌∙◌}
 use Rattle.numeral.specs.Numbers.{counted}
 use Rattle.record.specs.Writes.{within, part, wrong_texts, overview_fields_in}
 use Rattle.record.proofs.Backs.{written_fields, if_written, text_there, overview_fields_are, overview_back}

@@ -1,6 +1,5 @@
-use Rattle.std.proofs.Common.{Bool, cond, [], ◌∷◌, Some, None, codes, sym, ap, ◌∙◌}
-use Rattle.line.specs.Reads.{behind}
-use Rattle.record.specs.Writes.{title_fields, within, part, wrong_title}
+use Rattle.std.proofs.Common.{Bool, cond, [], ◌∷◌, Some, None, codes, ap}
+use Rattle.record.specs.Writes.{title_fields, part, wrong_title}
 use Rattle.record.proofs.Backs.{written_fields, if_written, text_there, title_fields_are, title_back}
 use Rattle.record.proofs.title_name.TitleName.write.Goals as goal
 

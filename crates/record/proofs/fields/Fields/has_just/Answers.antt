@@ -1,6 +1,6 @@
 use Rattle.std.proofs.Common.{arith}
 use Rattle.record.proofs.Places.{last_there, last_missing}
-use Rattle.record.proofs.fields.Fields.are.Goals as goal
+use Rattle.record.proofs.fields.Fields.has_just.Goals as goal
 
 pub returns-then-is_some : goal.returns-then-is_some
 returns-then-is_some c =
