@@ -41,7 +41,7 @@ fn put_texts(fields: &Fields, out: &mut [u8]) -> Option<(usize, usize)>
     Some((middle, middle + more))
 }
 
-// A count as it is written, with no leading zeros, in a buffer for its digits.
+// A count as it is written, with no leading zeros. Fixed memory: its digits lie at the end of the caller's buffer.
 fn count_digits<'b>(count: u16, buffer: &'b mut [u8; 5]) -> &'b [u8]
     ensures digits { result.now ≡ in_count count }
     ensures back { counted result.now ≡ Some count }

@@ -52,23 +52,16 @@ impl PlayStatus {
     {
         let fields = Fields { message: *message };
         fields.expect_kind(b"PLAY_STATUS", 8)?;
-        let mode = mode_in(&fields)?;
-        let speed = speed_in(&fields)?;
-        let title_number = fields.number(3, 2)?;
-        let title_length = fields.number(4, 5)?;
-        let title_location = fields.number(5, 5)?;
-        let chapter_number = fields.number(6, 3)?;
-        let chapter_length = fields.number(7, 5)?;
-        let chapter_location = fields.number(8, 5)?;
+        // a cast here loses nothing, which is proved: two digits fit a byte, and three fit two bytes
         Ok(PlayStatus {
-            mode,
-            speed,
-            title_number: title_number as u8,
-            title_length,
-            title_location,
-            chapter_number: chapter_number as u16,
-            chapter_length,
-            chapter_location,
+            mode: mode_in(&fields)?,
+            speed: speed_in(&fields)?,
+            title_number: fields.number(3, 2)? as u8,
+            title_length: fields.number(4, 5)?,
+            title_location: fields.number(5, 5)?,
+            chapter_number: fields.number(6, 3)? as u16,
+            chapter_length: fields.number(7, 5)?,
+            chapter_location: fields.number(8, 5)?,
         })
     }
 }

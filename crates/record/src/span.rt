@@ -1,4 +1,5 @@
-// A part of the caller's buffer: the bytes from `start` up to and without `end`.
+// A part of the caller's buffer: the bytes from `start` up to and without `end`. It is no `Range`, since a record is copied
+// and a `Range` cannot be, and no slice, since a record may outlive what it was read into.
 ghost use Rattle.std.specs.Prelude.{◌≡◌, if◌then◌else◌, Some, None};
 ghost use Rattle.line.specs.Reads.{behind};
 ghost use Rattle.record.specs.Writes.{within, part};

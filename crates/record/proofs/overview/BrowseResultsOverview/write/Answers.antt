@@ -22,4 +22,4 @@ pub returns-clause-back : goal.returns-clause-back
 returns-clause-back c =
     let o = c.args.self.now in
     if_written c.add_all.result _ (overview_back (part o.handle c.args.text.now) (part o.title c.args.text.now) o.lines o.total
-        (ap counted (sym c.count_digits.ensures.digits) ∙ c.count_digits.ensures.back) (ap counted (sym c.count_digits-2.ensures.digits) ∙ c.count_digits-2.ensures.back))
+    (ap counted (sym c.count_digits.ensures.digits) ∙ c.count_digits.ensures.back) (ap counted (sym c.count_digits-2.ensures.digits) ∙ c.count_digits-2.ensures.back))
