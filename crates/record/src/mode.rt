@@ -2,8 +2,9 @@
 ghost use Rattle.std.specs.Prelude.{◌≡◌, Some};
 ghost use Rattle.record.specs.Records.{mode_read};
 ghost use Rattle.record.specs.Writes.{mode_number};
-ghost use Rattle.record.specs.Shown.{mode_name};
+ghost use Rattle.record.specs.Shown.{mode_name, unknown_text};
 
+use std::error::Error;
 use std::fmt;
 
 #[derive(Clone, Copy, PartialEq, Eq, Debug)]
@@ -35,6 +36,16 @@ impl TryFrom<u32> for PlayMode {
         }
     }
 }
+
+impl fmt::Display for UnknownMode {
+    ghost output = { λ unknown. Some (unknown_text unknown) };
+
+    fn fmt<W: fmt::Write>(&self, f: &mut fmt::Formatter<W>) -> fmt::Result {
+        write!(f, "no play mode has the number {}", self.0)
+    }
+}
+
+impl Error for UnknownMode {}
 
 impl From<PlayMode> for u32 {
     ghost from_gives = { λ mode n. n ≡ mode_number mode };

@@ -14,6 +14,7 @@ use std::fmt;
 // The highest speed of a scan.
 const SPEED_MAX: u32 = 3;
 
+// Its fields are open to all, so a value that its digits cannot hold is refused only where it is written.
 #[derive(Clone, Copy, PartialEq, Eq, Debug)]
 pub struct PlayStatus {
     pub mode: PlayMode,

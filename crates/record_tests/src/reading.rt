@@ -1,6 +1,6 @@
 // Examples as a player sends them, each field wrong in turn, and escapes inside names and numbers.
 use line::{Fault, Side, read};
-use record::{BrowseResultsOverview, PlayMode, PlayStatus, Span, TitleName};
+use record::{BrowseResultsOverview, PlayMode, PlayStatus, Span, TitleName, UnknownMode};
 
 // The play status of a line, or why it is not one.
 fn status_of(line: &[u8]) -> Result<PlayStatus, Fault> {
@@ -34,6 +34,16 @@ fn play_status(rt: HostRuntime) {
         status_of(b"01/!/000:PLAY\\d095STATUS:\\d050:0:0\\d049:05343:01175:004:00600:00034:/75")
             == Ok(status)
     );
+}
+
+// Of ten digits, five are modes.
+#[test]
+fn modes(rt: HostRuntime) {
+    for n in 0..10u32 {
+        let known = PlayMode::try_from(n).map(u32::from);
+        let mode = matches!(n, 0 | 1 | 2 | 4 | 6);
+        assert!(rt; known == if mode { Ok(n) } else { Err(UnknownMode(n)) });
+    }
 }
 
 // Each field wrong in turn.
