@@ -1,20 +1,24 @@
 -- What is written of a record is read back.
-use Rattle.std.proofs.Common.{◌≡◌, ℕ, zero, suc, ◌+◌, ◌-◌, ◌*◌, ◌/◌, ◌%◌, ◌^◌, ◌<◌, ◌≤◌, Bool, true, false, cond, leb, List, [], ◌∷◌, ◌++◌, length, Some, None, Ok, Err, codes, Option, Result, refl, ap, ◌∙◌, subst, mod-lt, mod-eq_of_lt, mul_assoc, add-mul, arith, pow-add}
+use Rattle.std.proofs.Common.{◌≡◌, ℕ, zero, suc, ◌+◌, ◌-◌, ◌*◌, ◌/◌, ◌%◌, ◌^◌, ◌<◌, ◌≤◌, Bool, true, false, cond, leb, List, [], ◌∷◌, ◌++◌, length, take, drop, Some, None, Ok, Err, codes, Option, Result, OnOk, if◌then◌else◌, sym, refl, ap, ◌∙◌, subst, mod-lt, mod-eq_of_lt, mul_assoc, add-mul, arith, pow-add}
 use native.Mathlib.Nat.{pow-le-pow_right}
 use lib.Arith.{mod-mul}
+use Rattle.std.specs.Borrow.{Bor}
 use Rattle.std.proofs.lemmas.Bool.{le-leb, leb-true, eq-eqb}
 use Rattle.escape.specs.Tokens.{digit}
+use Rattle.escape.specs.Texts.{same_bytes}
 use Rattle.line.specs.Forms.{answer}
+use Rattle.line.specs.Reads.{behind}
 use Rattle.line.specs.Lines.{Message}
 use Rattle.line.specs.declared.fault.Fault.{Fault}
-use Rattle.writer.specs.Writing.{begun, with_fields, all_fault}
+use Rattle.line.specs.declared.fault.Fault.TheVariants.{RecordForm}
+use Rattle.writer.specs.Writing.{begun, with_fields, refusal, all_fault}
 use Rattle.writer.specs.declared.page.Writer.{Writer}
-use Rattle.record.specs.Records.{same_bytes, is_kind, field_of, else_wrong, mode_numbered, mode_of, number_in, count_in, mode_in, speed_in, texts, is_overview, play_status, overview}
-use Rattle.record.specs.Writes.{mode_number, status_fields, last_of, row_fields, title_fields, overview_fields, wrong_status, write_fault, Adds, Alone, StatusBack, TitleRead, TitleBack, OverviewRead, OverviewBack}
+use Rattle.record.specs.Records.{is_kind, if_kind, field_of, else_wrong, mode_numbered, mode_of, number_in, count_in, mode_in, speed_in, texts, play_status, overview}
+use Rattle.record.specs.Writes.{mode_number, status_fields, title_fields, overview_fields, wrong_status, unless_wrong, within, part, Adds, Written, Alone, StatusBack, TitleRead, TitleBack, OverviewRead, OverviewBack}
 use Rattle.record.specs.declared.mode.PlayMode.{PlayMode}
 use Rattle.record.specs.declared.mode.PlayMode.TheVariants.{NothingPlaying, Paused, Playing, ForwardScan, ReverseScan}
 use Rattle.record.specs.declared.play_status.PlayStatus.{PlayStatus}
-use Rattle.record.specs.declared.play_status_write.Rows.{Rows}
+use Rattle.record.specs.declared.span.Span.{Span}
 use Rattle.numeral.specs.Numbers.{spelled_on, numeral, at_most, counted, in_digits, width_of, in_count}
 
 -- ---- numbers
@@ -73,19 +77,6 @@ count_back n most = go (leb n 9) refl (leb n 99) refl (leb n 999) refl (leb n 99
     go false e false eb false ec true ed = count_of_width 4 n (omega arith) (omega arith) (omega (arith, leb-true n 9999 ed)) most
     go false e false eb false ec false ed = count_of_width 5 n (omega arith) (omega arith) (omega arith) most
 
--- ---- what is written of a play status
-pub rows_are : (s : PlayStatus) (r : Rows) (mode : ℕ) → mode ≡ mode_number s.mode → r.name ≡ codes "PLAY_STATUS" → r.mode ≡ in_digits 5 mode → r.speed ≡ in_digits 5 s.speed
-    → r.title_number ≡ in_digits 5 s.title_number → r.title_length ≡ in_digits 5 s.title_length → r.title_location ≡ in_digits 5 s.title_location
-    → r.chapter_number ≡ in_digits 5 s.chapter_number → r.chapter_length ≡ in_digits 5 s.chapter_length → r.chapter_location ≡ in_digits 5 s.chapter_location
-    → row_fields r ≡ status_fields s
-unfolding status_fields in_digits
-rows_are s r mode em n m sp tn tl tp cn cl cp =
-    let e1 = ap (last_of 1) (m ∙ ap (in_digits 5) em) in
-    let e2 = ap (last_of 1) sp in
-    let e3 = ap (last_of 2) tn in
-    let e6 = ap (last_of 3) cn in
-    cc
-
 -- ---- a play status read back
 mode_back : (mode : PlayMode) → (mode_numbered (mode_number mode) ≡ Some mode) × (mode_number mode < 10)
 mode_back NothingPlaying = (refl, omega arith)
@@ -132,10 +123,10 @@ status_by_fields : (m : Message) (s : PlayStatus) → is_kind (codes "PLAY_STATU
 status_by_fields m s k a b c d e f g h = rw (k, a, b, c, d, e, f, g, h)
 
 -- a message of an answer with a status and the fields behind it
-abbrev behind : Message → List ℕ → List (List ℕ) → Message
-behind m status fields = record { side = m.side; address = m.address; mark = m.mark; fields = status ∷ fields }
+abbrev with_status : Message → List ℕ → List (List ℕ) → Message
+with_status m status fields = record { side = m.side; address = m.address; mark = m.mark; fields = status ∷ fields }
 
-pub alone_with : (m : Message) (fields : List (List ℕ)) → Alone m → (P : Message → Type 0) → ((status : List ℕ) → P (behind m status fields)) → P (with_fields m fields)
+pub alone_with : (m : Message) (fields : List (List ℕ)) → Alone m → (P : Message → Type 0) → ((status : List ℕ) → P (with_status m status fields)) → P (with_fields m fields)
 unfolding with_fields
 alone_with m fields a P h = go m.fields refl a.status
   where
@@ -144,12 +135,11 @@ alone_with m fields a P h = go m.fields refl a.status
     go (x ∷ y ∷ fs) e n = absurd (omega arith)
     go (x ∷ []) e n = rw e (h x)
 
-kind_is : (m : Message) (status name : List ℕ) (fields : List (List ℕ)) (count : ℕ) → m.side ≡ answer → length fields ≡ count → same_bytes name name ≡ true → is_kind name count (behind m status (name ∷ fields)) ≡ true
+kind_is : (m : Message) (status name : List ℕ) (fields : List (List ℕ)) (count : ℕ) → m.side ≡ answer → length fields ≡ count → same_bytes name name ≡ true → is_kind name count (with_status m status (name ∷ fields)) ≡ true
 unfolding is_kind field_of
 kind_is m status name fields count e n same = rw (e, same) (eq-eqb (suc (suc (length fields))) (count + 2) (omega arith))
 
 same_self : (xs : List ℕ) → same_bytes xs xs ≡ true
-unfolding same_bytes
 same_self [] = refl
 same_self (x ∷ xs) = rw (eq-eqb x x refl) (same_self xs)
 
@@ -158,7 +148,7 @@ unfolding status_fields field_of mode_in speed_in number_in
 status_back s e m a = alone_with m (status_fields s) a (λ x. play_status x ≡ Ok s) (λ status.
     let w = fitting_status s e in
     let b = mode_back s.mode in
-    status_by_fields (behind m status (status_fields s)) s
+    status_by_fields (with_status m status (status_fields s)) s
     (kind_is m status (codes "PLAY_STATUS") _ 8 a.side refl (same_self (codes "PLAY_STATUS")))
     (ap (λ (o : Option ℕ). else_wrong 1 (mode_of o)) (numeral_back 1 (mode_number s.mode) (omega (arith, b.1))) ∙ ap (else_wrong 1) b.0)
     (ap (λ (o : Option ℕ). else_wrong 2 (at_most 3 o)) (numeral_back 1 s.speed (omega (arith, w.speed))) ∙ ap (λ (t : Bool). else_wrong 2 (cond t (Some s.speed) None)) (le-leb s.speed 3 w.speed))
@@ -169,19 +159,20 @@ status_back s e m a = alone_with m (status_fields s) a (λ x. play_status x ≡ 
     (ap (else_wrong 7) (numeral_back 5 s.chapter_length w.chapter_size))
     (ap (else_wrong 8) (numeral_back 5 s.chapter_location w.chapter_place)))
 
--- ---- a record that may be written
-pub may_write : (said : Option Fault) (bare : Bool) (wrong : Option ℕ) (n room : ℕ) (others fields : List (List ℕ)) → said ≡ all_fault n others room → others ≡ fields → true ≡ bare → None ≡ wrong → said ≡ write_fault bare wrong n fields room
-may_write said bare wrong n room others fields e f b w = rw (← b, ← w, ← f) e
+-- ---- what adding its fields promises of a record whose values fit
+pub written_fields : (r : Result (Unit {0}) Fault) (wrong : Option ℕ) (given fields : List (List ℕ)) (before after : Writer) → true ≡ before.bare → None ≡ wrong → given ≡ fields
+    → refusal r ≡ all_fault before.len given (length before.out.now)
+    → elim r as (λ (x : Result (Unit {0}) Fault). Type 0) [ Ok x ↦ Adds given before after | Err f ↦ after ≡ before ]
+    → elim r as (λ (x : Result (Unit {0}) Fault). Type 0) [ Ok x ↦ after.bare ≡ false | Err f ↦ Unit {0} ]
+    → after.out.ghost_name ≡ before.out.ghost_name → Written wrong fields before after r
+written_fields (Ok x) wrong given fields before after b w e said state bare lender =
+    record { answer = rw (← b, ← w, ← e) said; state = subst (λ (fs : List (List ℕ)). Adds fs before after) e state; bare = bare; lender = lender }
+written_fields (Err f) wrong given fields before after b w e said state bare lender =
+    record { answer = rw (← b, ← w, ← e) said; state = state; bare = tt; lender = lender }
 
-pub if_written : {X : Type 0} (r : Result X Fault) (P : Type 0) → P → elim r as (λ (x : Result X Fault). Type 0) [ Ok x ↦ P | Err f ↦ Unit {0} ]
+pub if_written : (r : Result (Unit {0}) Fault) (P : Type 0) → P → OnOk r P
 if_written (Ok x) P p = p
 if_written (Err f) P p = tt
-
-pub adds_same : {X : Type 0} (r : Result X Fault) (fields others : List (List ℕ)) (before after : Writer) → fields ≡ others
-    → elim r as (λ (x : Result X Fault). Type 0) [ Ok x ↦ Adds fields before after | Err f ↦ after ≡ before ]
-    → elim r as (λ (x : Result X Fault). Type 0) [ Ok x ↦ Adds others before after | Err f ↦ after ≡ before ]
-adds_same (Ok x) fields others before after e h = subst (λ (fs : List (List ℕ)). Adds fs before after) e h
-adds_same (Err f) fields others before after e h = h
 
 -- ---- a title and an overview read back
 pub title_back : (title : List ℕ) → TitleBack title
@@ -191,35 +182,60 @@ title_back title m a = alone_with m (title_fields title) a (TitleRead title) (λ
   is = λ room h. rw (kind_is m status (codes "TITLE_NAME") (title ∷ []) 1 a.side refl (same_self (codes "TITLE_NAME")), le-leb (length title) room h);
 })
 
-overview_by_fields : (m : Message) (handle title : List ℕ) (lines total room : ℕ) → is_overview m ≡ true → count_in m 3 ≡ Ok lines → count_in m 4 ≡ Ok total → field_of m 1 ≡ handle → texts m ≡ handle ++ title → length (handle ++ title) ≤ room
-    → overview m room ≡ Ok (record { handle = record { start = 0; end = length handle }; title = record { start = length handle; end = length (handle ++ title) }; lines = lines; total = total })
-overview_by_fields m handle title lines total room k a b f t h = rw (k, a, b, f, t, le-leb (length (handle ++ title)) room h)
+pub overview_by_fields : (m : Message) (middle end lines total room : ℕ) → is_kind (codes "BROWSE_RESULTS_OVERVIEW") 4 m ≡ true → count_in m 3 ≡ Ok lines → count_in m 4 ≡ Ok total
+    → middle ≡ length (field_of m 1) → end ≡ length (texts m) → leb (length (texts m)) room ≡ true
+    → overview m room ≡ Ok (record { handle = record { start = 0; end = middle }; title = record { start = middle; end = end }; lines = lines; total = total })
+overview_by_fields m middle end lines total room k a b first both fits = rw (k, a, b, fits, first, both) refl
 
-pub overview_back : (handle title : List ℕ) (lines total : ℕ) → lines ≤ 65535 → total ≤ 65535 → OverviewBack handle title lines total
-unfolding overview_fields field_of texts count_in is_overview
+-- a message that is not refused is of the kind
+pub of_kind : (name : List ℕ) (count : ℕ) (m : Message) → ◌≡◌ {A = Result (Unit {0}) Fault} (Ok (tt {0})) (if_kind name count m (Ok (tt {0}))) → is_kind name count m ≡ true
+of_kind name count m e = go (is_kind name count m) e
+  where
+    go : (t : Bool) → ◌≡◌ {A = Result (Unit {0}) Fault} (Ok (tt {0})) (cond t (Ok (tt {0})) (Err (RecordForm 0))) → t ≡ true
+    go true e = refl
+    go false e = cc
+
+pub overview_back : (handle title : List ℕ) (lines total : ℕ) → counted (in_count lines) ≡ Some lines → counted (in_count total) ≡ Some total → OverviewBack handle title lines total
+unfolding overview_fields field_of texts count_in
 overview_back handle title lines total l t m a = alone_with m (overview_fields handle title lines total) a (OverviewRead handle title lines total) (λ status. record {
   text = refl;
-  is = λ room h. overview_by_fields (behind m status (overview_fields handle title lines total)) handle title lines total room
+  is = λ room h. overview_by_fields (with_status m status (overview_fields handle title lines total)) (length handle) (length (handle ++ title)) lines total room
       (kind_is m status (codes "BROWSE_RESULTS_OVERVIEW") (handle ∷ title ∷ in_count lines ∷ in_count total ∷ []) 4 a.side refl (same_self (codes "BROWSE_RESULTS_OVERVIEW")))
-      (ap (else_wrong 3) (count_back lines l)) (ap (else_wrong 4) (count_back total t)) refl refl h;
+      (ap (else_wrong 3) l) (ap (else_wrong 4) t) refl refl (le-leb (length (handle ++ title)) room h);
 })
 
--- the digits of a count are the last of five
-pub count_digits : (n : ℕ) (digits : List ℕ) (width : ℕ) → digits ≡ in_digits 5 n → width ≡ width_of n → last_of width digits ≡ in_count n
-unfolding in_count in_digits
-count_digits n digits width e w = rw (e, w) (go (leb n 9) (leb n 99) (leb n 999) (leb n 9999))
+-- ---- a text that lies in its buffer
+pub text_there : (s : Span) (text : List ℕ) (o : Option (Bor (List ℕ))) (x : Bor (List ℕ)) → o ≡ Some x → behind o ≡ (if within s text then Some (part s text) else None) → (true ≡ within s text) × (x.now ≡ part s text)
+text_there s text None x is e = cc
+text_there s text (Some y) x is e = go (within s text) refl e
   where
-    go : (a b c d : Bool) → last_of (cond a 1 (cond b 2 (cond c 3 (cond d 4 5)))) (in_digits 5 n) ≡ in_digits (cond a 1 (cond b 2 (cond c 3 (cond d 4 5)))) n
+    go : (t : Bool) → within s text ≡ t → Some y.now ≡ (if t then Some (part s text) else None) → (true ≡ within s text) × (x.now ≡ part s text)
+    go true t e = let same : y ≡ x = cc in (sym t, ap (λ (b : Bor (List ℕ)). b.now) (sym same) ∙ cc)
+    go false t e = cc
+
+-- none of the values of a play status is refused
+pub none_wrong : (wrong : Option ℕ) → None ≡ unless_wrong wrong None → None ≡ wrong
+none_wrong None e = refl
+none_wrong (Some place) e = cc
+
+pub status_fields_are : (s : PlayStatus) (mode speed number size place chapter chapter_size chapter_place : List ℕ) → mode ≡ in_digits 1 (mode_number s.mode) → speed ≡ in_digits 1 s.speed
+    → number ≡ in_digits 2 s.title_number → size ≡ in_digits 5 s.title_length → place ≡ in_digits 5 s.title_location
+    → chapter ≡ in_digits 3 s.chapter_number → chapter_size ≡ in_digits 5 s.chapter_length → chapter_place ≡ in_digits 5 s.chapter_location
+    → codes "PLAY_STATUS" ∷ mode ∷ speed ∷ number ∷ size ∷ place ∷ chapter ∷ chapter_size ∷ chapter_place ∷ [] ≡ status_fields s
+unfolding status_fields
+status_fields_are s mode speed number size place chapter chapter_size chapter_place a b c d e f g h = cc
+
+-- the digits of a count are the last of five
+pub count_digits : (n width : ℕ) (digits : List ℕ) → digits ≡ in_digits 5 n → width ≡ width_of n → take (5 - (5 - width)) (drop (5 - width) digits) ≡ in_count n
+unfolding in_count in_digits
+count_digits n width digits e w = rw (e, w) (go (leb n 9) (leb n 99) (leb n 999) (leb n 9999))
+  where
+    go : (a b c d : Bool) → let k : ℕ = cond a 1 (cond b 2 (cond c 3 (cond d 4 5))) in take (5 - (5 - k)) (drop (5 - k) (in_digits 5 n)) ≡ in_digits k n
     go true b c d = refl
     go false true c d = refl
     go false false true d = refl
     go false false false true = refl
     go false false false false = refl
-
--- ---- a text that lies in its buffer
-pub text_there : (there : Bool) (whole title : List ℕ) → Some title ≡ cond there (Some whole) None → (true ≡ there) × (title ≡ whole)
-text_there true whole title e = (refl, cc)
-text_there false whole title e = let z : ◌≡◌ {A = ℕ} 0 1 = cc in absurd (omega arith)
 
 pub title_fields_are : (title whole : List ℕ) → title ≡ whole → codes "TITLE_NAME" ∷ title ∷ [] ≡ title_fields whole
 unfolding title_fields

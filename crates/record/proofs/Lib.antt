@@ -1,6 +1,5 @@
 pub mod Places
 pub mod Texts
-pub mod Fitting
 pub mod Lying
 pub mod Backs
 pub mod Rounds

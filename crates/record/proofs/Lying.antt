@@ -1,12 +1,16 @@
 -- Texts that lie in a buffer.
-use Rattle.std.proofs.Common.{◌≡◌, ℕ, ◌+◌, ◌-◌, ◌≤◌, Bool, false, cond, leb, List, [], ◌++◌, length, take, drop, ap, ◌∙◌, append_assoc, arith, length-append, rules}
+use Rattle.std.proofs.Common.{◌≡◌, ℕ, ◌+◌, ◌-◌, ◌≤◌, Bool, true, false, cond, if◌then◌else◌, leb, List, [], ◌++◌, length, take, drop, Some, None, Option, refl, ap, ◌∙◌, append_assoc, arith, length-append, rules}
 use Rattle.std.proofs.lemmas.List.{same_lists, places}
-use Rattle.std.proofs.lemmas.Bool.{le-leb}
+use Rattle.std.proofs.lemmas.Bool.{le-leb, leb-true}
+use Rattle.std.specs.Borrow.{Bor}
+use Rattle.std.specs.Slice.{IsGetRangeResult}
+use Rattle.line.specs.Reads.{behind}
 use Rattle.escape.specs.Resolving.{written}
 use Rattle.line.specs.Lines.{Message}
 use Rattle.record.specs.Records.{field_of, texts}
+use Rattle.record.proofs.Texts.{there}
 use Rattle.record.specs.Spans.{Lies}
-use Rattle.record.specs.Writes.{part}
+use Rattle.record.specs.Writes.{within, part}
 use Rattle.record.specs.declared.span.Span.{Span}
 
 cut_out : (before text after : List ℕ) (n : ℕ) → n ≡ length before + length text → take (n - length before) (drop (length before) (before ++ (text ++ after))) ≡ text
@@ -21,17 +25,14 @@ lies_there s before text after buffer a b e =
       is = ap (λ (k : ℕ). take (s.end - k) (drop k buffer)) a ∙ ap (λ (l : List ℕ). take (s.end - length before) (drop (length before) l)) e ∙ cut_out before text after s.end b;
     }
 
-fits_there : (bs out : List ℕ) → length bs ≤ length out → written bs out ≡ bs ++ drop (length bs) out
-fits_there bs out h = ap (λ (t : Bool). cond t (bs ++ drop (length bs) out) out) (le-leb (length bs) (length out) h)
-
 -- a text alone, and two one behind the other
 pub one_lies : (n : ℕ) (text out buffer : List ℕ) → n ≡ length text → length text ≤ length out → buffer ≡ written text out → Lies (record { start = 0; end = n }) text buffer
-one_lies n text out buffer e h is = lies_there (record { start = 0; end = n }) [] text (drop (length text) out) buffer (omega arith) (omega arith) (is ∙ fits_there text out h)
+one_lies n text out buffer e h is = lies_there (record { start = 0; end = n }) [] text (drop (length text) out) buffer (omega arith) (omega arith) (is ∙ there text out h)
 
 module _ (m : Message) (out buffer : List ℕ) (middle end : ℕ) (a : middle ≡ length (field_of m 1)) (b : end ≡ length (texts m)) (h : length (texts m) ≤ length out) (is : buffer ≡ written (texts m) out) where
   both : buffer ≡ field_of m 1 ++ (field_of m 2 ++ drop (length (texts m)) out)
   unfolding texts
-  both = is ∙ fits_there (texts m) out h ∙ append_assoc (field_of m 1) (field_of m 2) (drop (length (texts m)) out)
+  both = is ∙ there (texts m) out h ∙ append_assoc (field_of m 1) (field_of m 2) (drop (length (texts m)) out)
 
   size : end ≡ length (field_of m 1) + length (field_of m 2)
   unfolding texts
@@ -42,3 +43,14 @@ module _ (m : Message) (out buffer : List ℕ) (middle end : ℕ) (a : middle �
 
   pub second_lies : Lies (record { start = middle; end = end }) (field_of m 2) buffer
   second_lies = lies_there (record { start = middle; end = end }) (field_of m 1) (field_of m 2) (drop (length (texts m)) out) buffer a size both
+
+-- the bytes from start to end of a span, if they lie in the buffer
+pub part_got : (s : Span) (text : List ℕ) (r : Option (Bor (List ℕ))) → IsGetRangeResult text s.start s.end r → behind r ≡ (if within s text then Some (part s text) else None)
+unfolding part
+part_got s text None h = go (leb s.start s.end) refl (leb s.end (length text)) refl
+  where
+    go : (a : Bool) → leb s.start s.end ≡ a → (b : Bool) → leb s.end (length text) ≡ b → None ≡ (if cond a b false then Some (part s text) else None)
+    go true ea true eb = let t : ◌≡◌ {A = Bool} false true = h.1 (leb-true s.start s.end ea, leb-true s.end (length text) eb) in cc
+    go true ea false eb = refl
+    go false ea b eb = refl
+part_got s text (Some x) h = rw (le-leb s.start s.end h.0.0, le-leb s.end (length text) h.0.1) (ap Some h.0.2)

@@ -7,7 +7,7 @@ use Rattle.writer.specs.Writing.{with_fields}
 use Rattle.writer.proofs.Backs.{reads_back}
 use Rattle.record.specs.Laws.{LineRead, WayRound}
 use Rattle.record.specs.Writes.{Alone}
-use Rattle.record.proofs.Backs.{status_back, title_back, overview_back}
+use Rattle.record.proofs.Backs.{count_back, status_back, title_back, overview_back}
 
 an_answer : (m : Message) (fields : List (List ℕ)) → Alone m → (with_fields m fields).side ≡ answer
 unfolding with_fields
@@ -24,5 +24,5 @@ pub way_round : WayRound
 way_round = record {
   status = λ s fits. line_read _ _ (status_back s (sym fits));
   title = λ title. line_read _ _ (title_back title);
-  overview = λ handle title lines total l t. line_read _ _ (overview_back handle title lines total l t);
+  overview = λ handle title lines total l t. line_read _ _ (overview_back handle title lines total (count_back lines l) (count_back total t));
 }

@@ -1,8 +1,8 @@
 -- Two texts written to the front of a buffer, one behind the other.
-use Rattle.std.proofs.Common.{◌≡◌, ℕ, ◌+◌, ◌-◌, ◌≤◌, Bool, cond, List, ◌++◌, length, take, drop, sym, ap, ◌∙◌, arith, length-append, rules}
+use Rattle.std.proofs.Common.{◌≡◌, ℕ, ◌+◌, ◌-◌, ◌≤◌, Bool, true, false, cond, leb, ◌<◌, List, ◌++◌, length, take, drop, sym, ap, ◌∙◌, arith, length-append, rules}
 use borrow.Rule.Slice.PartMut.{put_mid}
 use Rattle.std.proofs.lemmas.List.{same_lists, places}
-use Rattle.std.proofs.lemmas.Bool.{le-leb}
+use Rattle.std.proofs.lemmas.Bool.{le-leb, lt-leb}
 use Rattle.escape.specs.Resolving.{written}
 use Rattle.line.specs.Lines.{Message}
 use Rattle.record.specs.Records.{field_of, texts}
@@ -11,7 +11,8 @@ put_behind : (a b out mid rest : List ℕ) (n : ℕ) → n ≡ length a → leng
     → put_mid n (length mid - n) mid rest ≡ (a ++ b) ++ drop (length (a ++ b)) out
 put_behind a b out mid rest n e h is put = rw (put, is) (same_lists _ _ (search (rules, places)) (λ i d l. grind (arith, places)))
 
-there : (bs out : List ℕ) → length bs ≤ length out → written bs out ≡ bs ++ drop (length bs) out
+-- bytes for which there is room
+pub there : (bs out : List ℕ) → length bs ≤ length out → written bs out ≡ bs ++ drop (length bs) out
 there bs out h = ap (λ (t : Bool). cond t (bs ++ drop (length bs) out) out) (le-leb (length bs) (length out) h)
 
 pub put_both : (a b out mid rest : List ℕ) (n : ℕ) → n ≡ length a → length a + length b ≤ length out → mid ≡ written a out → rest ≡ written b (take (length mid - n) (drop n mid))
@@ -31,3 +32,9 @@ texts_length m a b n k ea eb en ek = omega (arith, length-append (field_of m 1) 
 pub texts_are : (m : Message) (a b : List ℕ) → a ≡ field_of m 1 → b ≡ field_of m 2 → a ++ b ≡ texts m
 unfolding texts
 texts_are m a b ea eb = cc
+
+pub no_room : (m : Message) (n k room : ℕ) → n + k ≡ length (texts m) → room < n + k → leb (length (texts m)) room ≡ false
+no_room m n k room e h = lt-leb (length (texts m)) room (omega arith)
+
+pub some_room : (m : Message) (n k room : ℕ) → n + k ≡ length (texts m) → n + k ≤ room → leb (length (texts m)) room ≡ true
+some_room m n k room e h = le-leb (length (texts m)) room (omega arith)

@@ -5,6 +5,7 @@ use Rattle.line.specs.Lines.{Message}
 use Rattle.line.specs.declared.fault.Fault.{Fault}
 use Rattle.record.specs.Records.{field_of, texts}
 
+-- a number that is read is below the limit
 abbrev pub ReadBelow : ℕ → Result ℕ Fault → Type 0
 ReadBelow limit (Err f) = Unit {0}
 ReadBelow limit (Ok n) = n < limit

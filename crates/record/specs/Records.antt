@@ -1,6 +1,8 @@
 -- The three records, as they are read from a message.
-use Rattle.std.specs.Prelude.{ℕ, ◌+◌, Bool, true, false, cond, List, [], ◌∷◌, ◌++◌, length, Some, None, Ok, Err, codes, Option, Result, ◌==◌, nat_le, slice_index_or}
+use Rattle.std.specs.Prelude.{ℕ, ◌+◌, Bool, false, cond, List, [], ◌++◌, length, Some, None, Ok, Err, codes, Option, Result, ◌==◌, nat_le, slice_index_or}
+use Rattle.std.specs.Option.{ok_or}
 use Rattle.escape.specs.Resolving.{written}
+use Rattle.escape.specs.Texts.{same_bytes}
 use Rattle.line.specs.Lines.{Message}
 use Rattle.line.specs.declared.fault.Fault.{Fault}
 use Rattle.line.specs.declared.fault.Fault.TheVariants.{ShortBuffer, RecordForm}
@@ -8,17 +10,12 @@ use Rattle.writer.specs.Writing.{is_answer}
 use Rattle.numeral.specs.Numbers.{numeral, at_most, counted}
 use Rattle.record.specs.declared.mode.PlayMode.{PlayMode}
 use Rattle.record.specs.declared.mode.PlayMode.TheVariants.{NothingPlaying, Paused, Playing, ForwardScan, ReverseScan}
+use Rattle.record.specs.declared.mode.UnknownMode.{UnknownMode}
 use Rattle.record.specs.declared.play_status.PlayStatus.{PlayStatus}
 use Rattle.record.specs.declared.title_name.TitleName.{TitleName}
 use Rattle.record.specs.declared.overview.BrowseResultsOverview.{BrowseResultsOverview}
 
 -- ---- the kind of a message
-unfoldable pub same_bytes : List ℕ → List ℕ → Bool
-same_bytes [] [] = true
-same_bytes [] (y ∷ ys) = false
-same_bytes (x ∷ xs) [] = false
-same_bytes (x ∷ xs) (y ∷ ys) = cond (x == y) (same_bytes xs ys) false
-
 -- the field of a record, counted from 1: its name is at 0, behind the status
 unfoldable pub field_of : Message → ℕ → List ℕ
 field_of m place = slice_index_or m.fields (place + 1) []
@@ -47,6 +44,10 @@ mode_numbered n =
     (cond (n == 2) (Some Playing)
     (cond (n == 4) (Some ForwardScan)
     (cond (n == 6) (Some ReverseScan) None))))
+
+-- the mode, or the number that none has
+abbrev pub mode_read : ℕ → Result PlayMode UnknownMode
+mode_read n = ok_or (mode_numbered n) (record { 0 = n })
 
 abbrev pub mode_of : Option ℕ → Option PlayMode
 mode_of None = None
@@ -101,12 +102,9 @@ count_in m place = else_wrong place (counted (field_of m place))
 unfoldable pub texts : Message → List ℕ
 texts m = field_of m 1 ++ field_of m 2
 
-unfoldable pub is_overview : Message → Bool
-is_overview m = is_kind (codes "BROWSE_RESULTS_OVERVIEW") 4 m
-
 abbrev pub overview : Message → ℕ → Result BrowseResultsOverview Fault
 overview m room =
-    cond (is_overview m)
+    if_kind (codes "BROWSE_RESULTS_OVERVIEW") 4 m
     (then (count_in m 3) (λ lines.
     then (count_in m 4) (λ total.
     if_room (texts m) room (record {
@@ -115,7 +113,6 @@ overview m room =
       lines = lines;
       total = total;
     }))))
-    (Err (RecordForm 0))
 
 -- ---- the caller's buffer afterwards: the text at its front, if there is a record
 abbrev pub if_read : {X : Type 0} → Result X Fault → List ℕ → List ℕ → List ℕ

@@ -2,6 +2,7 @@
 use Rattle.std.specs.Prelude.{ℕ, List, ◌++◌, codes, decimal}
 use Rattle.record.specs.declared.mode.PlayMode.{PlayMode}
 use Rattle.record.specs.declared.mode.PlayMode.TheVariants.{NothingPlaying, Paused, Playing, ForwardScan, ReverseScan}
+use Rattle.record.specs.declared.mode.UnknownMode.{UnknownMode}
 use Rattle.record.specs.declared.play_status.PlayStatus.{PlayStatus}
 use Rattle.record.specs.declared.overview.BrowseResultsOverview.{BrowseResultsOverview}
 
@@ -11,6 +12,9 @@ mode_name Paused = codes "paused"
 mode_name Playing = codes "playing"
 mode_name ForwardScan = codes "scanning forward"
 mode_name ReverseScan = codes "scanning back"
+
+abbrev pub unknown_text : UnknownMode → List ℕ
+unknown_text unknown = codes "no play mode has the number " ++ decimal unknown.0
 
 -- which title or chapter, where in it, and how long it is, in seconds
 abbrev pub position_text : ℕ → ℕ → ℕ → List ℕ

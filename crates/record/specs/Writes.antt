@@ -1,17 +1,17 @@
 -- The three records, as they are written behind the status of an answer.
-use Rattle.std.specs.Prelude.{◌≡◌, ℕ, ◌-◌, ◌≤◌, Bool, false, cond, List, [], ◌∷◌, ◌++◌, length, take, drop, Some, None, Ok, codes, Option, nat_le}
+use Rattle.std.specs.Prelude.{◌≡◌, ℕ, ◌-◌, ◌≤◌, Bool, false, cond, List, [], ◌∷◌, ◌++◌, length, take, drop, Some, None, Ok, codes, Option, Result, nat_le, MatchResult, OnOk}
 use Rattle.line.specs.Forms.{answer}
 use Rattle.line.specs.Lines.{Message}
 use Rattle.line.specs.declared.fault.Fault.{Fault}
 use Rattle.line.specs.declared.fault.Fault.TheVariants.{RecordForm}
-use Rattle.writer.specs.Writing.{Opened, with_fields, all_fault}
+use Rattle.writer.specs.Writing.{Opened, with_fields, refusal, all_fault}
 use Rattle.writer.specs.declared.page.Writer.{Writer}
 use Rattle.numeral.specs.Numbers.{in_digits, in_count}
 use Rattle.record.specs.Records.{field_of, texts, play_status, title_name, overview}
 use Rattle.record.specs.declared.mode.PlayMode.{PlayMode}
 use Rattle.record.specs.declared.mode.PlayMode.TheVariants.{NothingPlaying, Paused, Playing, ForwardScan, ReverseScan}
+use Rattle.record.specs.declared.overview.BrowseResultsOverview.{BrowseResultsOverview}
 use Rattle.record.specs.declared.play_status.PlayStatus.{PlayStatus}
-use Rattle.record.specs.declared.play_status_write.Rows.{Rows}
 use Rattle.record.specs.declared.span.Span.{Span}
 
 -- ---- fields
@@ -28,16 +28,6 @@ status_fields s =
     codes "PLAY_STATUS" ∷ in_digits 1 (mode_number s.mode) ∷ in_digits 1 s.speed
     ∷ in_digits 2 s.title_number ∷ in_digits 5 s.title_length ∷ in_digits 5 s.title_location
     ∷ in_digits 3 s.chapter_number ∷ in_digits 5 s.chapter_length ∷ in_digits 5 s.chapter_location ∷ []
-
--- as five digits for each field hold them
-abbrev pub last_of : ℕ → List ℕ → List ℕ
-last_of width digits = take width (drop (5 - width) digits)
-
-abbrev pub row_fields : Rows → List (List ℕ)
-row_fields r =
-    r.name ∷ last_of 1 r.mode ∷ last_of 1 r.speed
-    ∷ last_of 2 r.title_number ∷ r.title_length ∷ r.title_location
-    ∷ last_of 3 r.chapter_number ∷ r.chapter_length ∷ r.chapter_location ∷ []
 
 unfoldable pub title_fields : List ℕ → List (List ℕ)
 title_fields title = codes "TITLE_NAME" ∷ title ∷ []
@@ -80,9 +70,22 @@ wrong_title title text = cond (within title text) None (Some 1)
 abbrev pub wrong_texts : Span → Span → List ℕ → Option ℕ
 wrong_texts handle title text = cond (within handle text) (cond (within title text) None (Some 2)) (Some 1)
 
+-- the fields of an overview whose handle and title lie in the buffer
+abbrev pub overview_fields_in : BrowseResultsOverview → List ℕ → List (List ℕ)
+overview_fields_in o text = overview_fields (part o.handle text) (part o.title text) o.lines o.total
+
 -- ---- what a writer holds afterwards: the line that was open has the fields too
 abbrev pub Adds : List (List ℕ) → Writer → Writer → Type 0
 Adds fields before after = (was : List ℕ) (m : Message) → Opened was m before.out.now before.len → Opened was (with_fields m fields) after.out.now after.len
+
+-- what a call answers that writes a record, and what the writer holds afterwards
+pub record Written (wrong : Option ℕ) (fields : List (List ℕ)) (before after : Writer) (result : Result (Unit {0}) Fault) : Type 0 where
+  pub answer : refusal result ≡ write_fault before.bare wrong before.len fields (length before.out.now)
+  -- the fields stand behind the status, or the writer is as it was
+  pub state : MatchResult result (λ _. Adds fields before after) (λ _. after ≡ before)
+  pub bare : OnOk result (after.bare ≡ false)
+  -- the buffer is still the one that was lent
+  pub lender : after.out.ghost_name ≡ before.out.ghost_name
 
 -- ---- the way round: what was written behind any answer's status is read back
 pub record Alone (m : Message) : Type 0 where
@@ -111,3 +114,7 @@ pub record OverviewRead (handle title : List ℕ) (lines total : ℕ) (m : Messa
 
 abbrev pub OverviewBack : List ℕ → List ℕ → ℕ → ℕ → Type 0
 OverviewBack handle title lines total = (m : Message) → Alone m → OverviewRead handle title lines total (with_fields m (overview_fields handle title lines total))
+
+-- of an overview whose handle and title lie in the buffer
+abbrev pub OverviewBackIn : BrowseResultsOverview → List ℕ → Type 0
+OverviewBackIn o text = OverviewBack (part o.handle text) (part o.title text) o.lines o.total

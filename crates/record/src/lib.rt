@@ -11,7 +11,7 @@ mod span;
 mod title_name;
 
 pub use laws::records_read_back;
-pub use mode::PlayMode;
+pub use mode::{PlayMode, UnknownMode};
 pub use overview::BrowseResultsOverview;
 pub use play_status::PlayStatus;
 pub use span::Span;

@@ -1,21 +1,20 @@
 // PLAY_STATUS: what the player plays, how, and where it is in title and chapter. Lengths and locations are in seconds.
-ghost use Rattle.std.specs.Prelude.{◌≡◌, IfOk, Some, None};
+ghost use Rattle.std.specs.Prelude.{◌≡◌, IfOk, Some};
 ghost use Rattle.line.specs.Meanings.{message_of};
-ghost use Rattle.numeral.specs.Numbers.{at_most, Below};
 ghost use Rattle.record.specs.Records.{mode_in, speed_in, play_status};
 ghost use Rattle.record.specs.Reads.{ReadBelow};
 ghost use Rattle.record.specs.Writes.{wrong_status};
 ghost use Rattle.record.specs.Shown.{position_text, status_text};
 
-use crate::fields::{field_at, is_kind, number_at};
+use crate::fields::Fields;
 use crate::mode::PlayMode;
 use line::{Fault, Message};
-use numeral::field_number;
 use std::fmt;
 
 // The highest speed of a scan.
 const SPEED_MAX: u32 = 3;
 
+// Its fields are open to all, so a value that its digits cannot hold is refused only where it is written.
 #[derive(Clone, Copy, PartialEq, Eq, Debug)]
 pub struct PlayStatus {
     pub mode: PlayMode,
@@ -28,30 +27,21 @@ pub struct PlayStatus {
     pub chapter_location: u32,
 }
 
-// A speed is no higher than the highest.
-fn speed_of(n: u32) -> Option<u8>
-    ensures value { result ≡ at_most 3 (Some n) }
-    ensures small { Below 4 result }
+#[tactic(auto, unfolding(crate::specs::Records::mode_in, crate::specs::Records::number_in))]
+fn mode_in(fields: &Fields) -> Result<PlayMode, Fault>
+    ensures { result ≡ mode_in (message_of fields.now.message) }
 {
-    if n <= SPEED_MAX { Some(n as u8) } else { None }
+    PlayMode::try_from(fields.number(1, 1)?).map_err(|_| Fault::RecordForm(1))
 }
 
-fn mode_in(message: &Message) -> Result<PlayMode, Fault>
-    ensures { result ≡ mode_in (message_of message.now) }
-{
-    match field_number(field_at(message, 1), 1) {
-        Some(n) => PlayMode::numbered(n).ok_or(Fault::RecordForm(1)),
-        None => Err(Fault::RecordForm(1)),
-    }
-}
-
-fn speed_in(message: &Message) -> Result<u8, Fault>
-    ensures value { result ≡ speed_in (message_of message.now) }
+#[tactic(auto, unfolding(crate::specs::Records::speed_in, crate::specs::Records::number_in))]
+fn speed_in(fields: &Fields) -> Result<u8, Fault>
+    ensures value { result ≡ speed_in (message_of fields.now.message) }
     ensures small { ReadBelow 4 result }
 {
-    match field_number(field_at(message, 2), 1) {
-        Some(n) => speed_of(n).ok_or(Fault::RecordForm(2)),
-        None => Err(Fault::RecordForm(2)),
+    match fields.number(2, 1)? {
+        n @ 0..=SPEED_MAX => Ok(n as u8),
+        _ => Err(Fault::RecordForm(2)),
     }
 }
 
@@ -61,26 +51,18 @@ impl PlayStatus {
         ensures told { result ≡ play_status (message_of message.now) }
         ensures fits { IfOk result (λ s. wrong_status s ≡ None) }
     {
-        if !is_kind(message, b"PLAY_STATUS", 8) {
-            return Err(Fault::RecordForm(0));
-        }
-        let mode = mode_in(message)?;
-        let speed = speed_in(message)?;
-        let title_number = number_at(message, 3, 2)?;
-        let title_length = number_at(message, 4, 5)?;
-        let title_location = number_at(message, 5, 5)?;
-        let chapter_number = number_at(message, 6, 3)?;
-        let chapter_length = number_at(message, 7, 5)?;
-        let chapter_location = number_at(message, 8, 5)?;
+        let fields = Fields { message: *message };
+        fields.expect_kind(b"PLAY_STATUS", 8)?;
+        // a cast here loses nothing, which is proved: two digits fit a byte, and three fit two bytes
         Ok(PlayStatus {
-            mode,
-            speed,
-            title_number: title_number as u8,
-            title_length,
-            title_location,
-            chapter_number: chapter_number as u16,
-            chapter_length,
-            chapter_location,
+            mode: mode_in(&fields)?,
+            speed: speed_in(&fields)?,
+            title_number: fields.number(3, 2)? as u8,
+            title_length: fields.number(4, 5)?,
+            title_location: fields.number(5, 5)?,
+            chapter_number: fields.number(6, 3)? as u16,
+            chapter_length: fields.number(7, 5)?,
+            chapter_location: fields.number(8, 5)?,
         })
     }
 }
@@ -114,12 +96,12 @@ impl fmt::Display for PlayStatus {
         let mode = self.mode;
         let speed = self.speed;
         let title = Position {
-            number: self.title_number as u32,
+            number: u32::from(self.title_number),
             location: self.title_location,
             length: self.title_length,
         };
         let chapter = Position {
-            number: self.chapter_number as u32,
+            number: u32::from(self.chapter_number),
             location: self.chapter_location,
             length: self.chapter_length,
         };

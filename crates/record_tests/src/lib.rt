@@ -1,9 +1,8 @@
 // Records written into whole lines, with tests of what is written and read.
 #![tactic(auto)]
 
-ghost use Rattle.std.specs.Prelude.{◌≡◌, Ok, Err};
+ghost use Rattle.std.specs.Prelude.{◌≡◌, IfOk, OnOk};
 ghost use Rattle.line.specs.Forms.{answer};
-ghost use Rattle.line.specs.Lines.{Message};
 ghost use Rattle.writer.specs.Writing.{Closed, begun, with_fields};
 ghost use Rattle.record.specs.Records.{play_status};
 ghost use Rattle.record.specs.Writes.{status_fields};
@@ -25,8 +24,8 @@ pub fn status_line(
     status: &[u8],
     play: &PlayStatus,
 ) -> Result<usize, Fault>
-    ensures line { elim result [ Ok n ↦ Closed out.old (with_fields (begun answer address.now mark status.now) (status_fields play.now)) out.new n | Err f ↦ Unit {0} ] }
-    ensures back { elim result [ Ok n ↦ play_status (with_fields (begun answer address.now mark status.now) (status_fields play.now)) ≡ Ok play.now | Err f ↦ Unit {0} ] }
+    ensures line { IfOk result (λ n. Closed out.old (with_fields (begun answer address.now mark status.now) (status_fields play.now)) out.new n) }
+    ensures back { OnOk result (play_status (with_fields (begun answer address.now mark status.now) (status_fields play.now)) ≡ Ok play.now) }
 {
     let mut writer = Writer::over(out);
     writer.begin(Side::Answer, address, mark, status)?;

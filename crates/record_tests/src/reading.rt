@@ -1,7 +1,6 @@
 // Examples as a player sends them, each field wrong in turn, and escapes inside names and numbers.
 use line::{Fault, Side, read};
-use record::{BrowseResultsOverview, PlayMode, PlayStatus, Span, TitleName};
-use std::test::Fail;
+use record::{BrowseResultsOverview, PlayMode, PlayStatus, Span, TitleName, UnknownMode};
 
 // The play status of a line, or why it is not one.
 fn status_of(line: &[u8]) -> Result<PlayStatus, Fault> {
@@ -37,65 +36,74 @@ fn play_status(rt: HostRuntime) {
     );
 }
 
+// Of ten digits, five are modes.
+#[test]
+fn modes(rt: HostRuntime) {
+    for n in 0..10u32 {
+        let known = PlayMode::try_from(n).map(u32::from);
+        let mode = matches!(n, 0 | 1 | 2 | 4 | 6);
+        assert!(rt; known == if mode { Ok(n) } else { Err(UnknownMode(n)) });
+    }
+}
+
+// Each field wrong in turn.
 #[test]
 fn wrong_fields(rt: HostRuntime) {
-    assert!(rt;
-        status_of(b"01/!/000:PLAY_STATUS:3:0:01:05343:01175:004:00600:00034:/30")
-            == Err(Fault::RecordForm(1))
-    );
-    assert!(rt;
-        status_of(b"01/!/000:PLAY_STATUS:2:4:01:05343:01175:004:00600:00034:/33")
-            == Err(Fault::RecordForm(2))
-    );
-    assert!(rt;
-        status_of(b"01/!/000:PLAY_STATUS:2:0:001:05343:01175:004:00600:00034:/77")
-            == Err(Fault::RecordForm(3))
-    );
-    assert!(rt;
-        status_of(b"01/!/000:PLAY_STATUS:2:0:01:5343:01175:004:00600:00034:/81")
-            == Err(Fault::RecordForm(4))
-    );
-    assert!(rt;
-        status_of(b"01/!/000:PLAY_STATUS:2:0:01:05343:011750:004:00600:00034:/77")
-            == Err(Fault::RecordForm(5))
-    );
-    assert!(rt;
-        status_of(b"01/!/000:PLAY_STATUS:2:0:01:05343:01175:4:00600:00034:/33")
-            == Err(Fault::RecordForm(6))
-    );
-    assert!(rt;
-        status_of(b"01/!/000:PLAY_STATUS:2:0:01:05343:01175:004:0060a:00034:/78")
-            == Err(Fault::RecordForm(7))
-    );
-    assert!(rt;
-        status_of(b"01/!/000:PLAY_STATUS:2:0:01:05343:01175:004:00600:00034 :/61")
-            == Err(Fault::RecordForm(8))
-    );
+    let cases: [(&[u8], usize); 8] = [
+        (
+            b"01/!/000:PLAY_STATUS:3:0:01:05343:01175:004:00600:00034:/30",
+            1,
+        ),
+        (
+            b"01/!/000:PLAY_STATUS:2:4:01:05343:01175:004:00600:00034:/33",
+            2,
+        ),
+        (
+            b"01/!/000:PLAY_STATUS:2:0:001:05343:01175:004:00600:00034:/77",
+            3,
+        ),
+        (
+            b"01/!/000:PLAY_STATUS:2:0:01:5343:01175:004:00600:00034:/81",
+            4,
+        ),
+        (
+            b"01/!/000:PLAY_STATUS:2:0:01:05343:011750:004:00600:00034:/77",
+            5,
+        ),
+        (
+            b"01/!/000:PLAY_STATUS:2:0:01:05343:01175:4:00600:00034:/33",
+            6,
+        ),
+        (
+            b"01/!/000:PLAY_STATUS:2:0:01:05343:01175:004:0060a:00034:/78",
+            7,
+        ),
+        (
+            b"01/!/000:PLAY_STATUS:2:0:01:05343:01175:004:00600:00034 :/61",
+            8,
+        ),
+    ];
+    for (line, place) in cases {
+        assert!(rt; status_of(line) == Err(Fault::RecordForm(place)));
+    }
 }
 
 // Another name, fewer and more fields, and a command.
 #[test]
-fn other_kinds(rt: HostRuntime) -> Result<(), Fail> {
-    assert!(rt;
-        status_of(b"01/!/000:PLAY_STATES:2:0:01:05343:01175:004:00600:00034:/13")
-            == Err(Fault::RecordForm(0))
-    );
-    assert!(rt;
-        status_of(b"01/!/000:PLAY_STATUS:2:0:01:05343:01175:004:00600:/24")
-            == Err(Fault::RecordForm(0))
-    );
-    assert!(rt;
-        status_of(b"01/!/000:PLAY_STATUS:2:0:01:05343:01175:004:00600:00034:1:/36")
-            == Err(Fault::RecordForm(0))
-    );
-    let Ok(command) = read(
+fn other_kinds(rt: HostRuntime) {
+    let answers: [&[u8]; 3] = [
+        b"01/!/000:PLAY_STATES:2:0:01:05343:01175:004:00600:00034:/13",
+        b"01/!/000:PLAY_STATUS:2:0:01:05343:01175:004:00600:/24",
+        b"01/!/000:PLAY_STATUS:2:0:01:05343:01175:004:00600:00034:1:/36",
+    ];
+    for line in answers {
+        assert!(rt; status_of(line) == Err(Fault::RecordForm(0)));
+    }
+    let command = read(
         Side::Command,
         b"01/1/PLAY_STATUS:2:0:01:05343:01175:004:00600:00034:",
-    ) else {
-        return Err(Fail::new("refused"));
-    };
-    assert!(rt; PlayStatus::read(&command) == Err(Fault::RecordForm(0)));
-    Ok(())
+    );
+    assert!(rt; command.and_then(|m| PlayStatus::read(&m)) == Err(Fault::RecordForm(0)));
 }
 
 // A title with an escape, in a buffer with room and in one that is a byte too short.
@@ -123,47 +131,42 @@ fn titles(rt: HostRuntime) {
     assert!(rt; short == *b"..");
 }
 
-// An overview, with and without leading zeros; one with six fields is not one.
+// An overview, with and without leading zeros; then others that are none, which leave the buffer as it was.
 #[test]
 fn overviews(rt: HostRuntime) {
-    let mut out = [b'.'; 12];
     let found = BrowseResultsOverview {
         handle: Span { start: 0, end: 5 },
         title: Span { start: 5, end: 10 },
         lines: 5,
         total: 8,
     };
-    assert!(rt;
-        overview_of(
+    let cases: [(&[u8], Result<BrowseResultsOverview, Fault>); 5] = [
+        (
             b"01.01/1/000:BROWSE_RESULTS_OVERVIEW:music:Music:5:8:/38",
-            &mut out,
-        ) == Ok(found)
-    );
-    assert!(rt; out == *b"musicMusic..");
-    assert!(rt;
-        overview_of(
+            Ok(found),
+        ),
+        (
             b"01.01/1/000:BROWSE_RESULTS_OVERVIEW:music:Music:00005:08:/78",
-            &mut out,
-        ) == Ok(found)
-    );
-    assert!(rt;
-        overview_of(
+            Ok(found),
+        ),
+        (
             b"01.01/1/000:BROWSE_RESULTS_OVERVIEW:now_playing:Now Playing:5:15:9:11:/52",
-            &mut out,
-        ) == Err(Fault::RecordForm(0))
-    );
-    assert!(rt;
-        overview_of(
+            Err(Fault::RecordForm(0)),
+        ),
+        (
             b"01.01/1/000:BROWSE_RESULTS_OVERVIEW:music:Music::8:/85",
-            &mut out,
-        ) == Err(Fault::RecordForm(3))
-    );
-    assert!(rt;
-        overview_of(
+            Err(Fault::RecordForm(3)),
+        ),
+        (
             b"01.01/1/000:BROWSE_RESULTS_OVERVIEW:music:Music:65535:65536:/58",
-            &mut out,
-        ) == Err(Fault::RecordForm(4))
-    );
+            Err(Fault::RecordForm(4)),
+        ),
+    ];
+    let mut out = [b'.'; 12];
+    for (line, overview) in cases {
+        assert!(rt; overview_of(line, &mut out) == overview);
+        assert!(rt; out == *b"musicMusic..");
+    }
     let mut short = [b'.'; 9];
     assert!(rt;
         overview_of(

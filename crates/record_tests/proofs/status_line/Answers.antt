@@ -1,10 +1,9 @@
-use Rattle.std.proofs.Common.{rules}
 use Rattle.line.specs.Forms.{answer}
 use Rattle.writer.specs.Writing.{begun}
 use Rattle.record.proofs.Backs.{alone_begun}
 use Rattle.record_tests.proofs.status_line.Goals as goal
 
-pub returns : goal.returns
-returns c =
+pub returns-clause-back : goal.returns-clause-back
+returns-clause-back c =
     let m = begun answer c.args.address.now c.args.mark c.args.status.now in
-    record { line = search rules; back = c.in_ok-write.ensures.back m (alone_begun c.args.address.now c.args.status.now c.args.mark) }
+    c.in_ok-write.ensures.back m (alone_begun c.args.address.now c.args.status.now c.args.mark)

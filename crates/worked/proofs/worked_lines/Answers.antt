@@ -1,8 +1,8 @@
 use Rattle.std.proofs.Common.{refl}
-use Rattle.record.specs.Records.{same_bytes, field_of, is_kind}
+use Rattle.record.specs.Records.{field_of, is_kind}
 use Rattle.worked.proofs.worked_lines.Goals as goal
 
 -- each side is computed
 pub returns : goal.returns
-unfolding same_bytes field_of is_kind
+unfolding field_of is_kind
 returns c = (refl, refl, refl, refl)

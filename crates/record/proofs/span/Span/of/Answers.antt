@@ -1,7 +1,5 @@
-use Rattle.std.proofs.Common.{rules}
-use Rattle.record.specs.Writes.{part}
+use Rattle.record.proofs.Lying.{part_got}
 use Rattle.record.proofs.span.Span.of.Goals as goal
 
-pub returns-then-self-text : goal.returns-then-self-text
-unfolding part
-returns-then-self-text c = search rules
+pub returns : goal.returns
+returns c = part_got c.args.self.now c.args.text.now c.get.result c.get.ensures.lookup

@@ -1,21 +1,15 @@
-use Rattle.std.proofs.Common.{ℕ, List, length, ap, ◌∙◌, arith, rules}
+use Rattle.std.proofs.Common.{ℕ, List, length, sym, ap, ◌∙◌, arith}
 use Rattle.escape.specs.Tokens.{resolved}
 use Rattle.escape.specs.Resolving.{written}
 use Rattle.line.specs.Meanings.{message_of}
+use Rattle.numeral.proofs.Numerals.{front}
 use Rattle.record.specs.Records.{field_of}
 use Rattle.record.proofs.Lying.{one_lies}
-use Rattle.numeral.proofs.Numerals.{front}
 use Rattle.record.proofs.title_name.TitleName.read.Goals as goal
 
-pub returns-in-Some : goal.returns-in-Some
-returns-in-Some c =
+pub returns-clause-lies : goal.returns-clause-lies
+returns-clause-lies c =
     let out = c.args.out.now in
-    let text = field_of (message_of c.args.message.now) 1 in
-    let raw = resolved c.field_at.result.now in
-    let is = c.field_at.ensures in
-    let fit = front raw out c.resolve.new.out c.in-Some.end c.in-Some.ensures.answer c.in-Some.ensures.after in
-    record {
-      answer = search rules;
-      after = c.in-Some.ensures.after ∙ ap (λ (x : List ℕ). written x out) is;
-      lies = one_lies c.in-Some.end text out c.resolve.new.out (fit.1 ∙ ap length is) (omega (arith, fit.1, fit.2, ap length is)) (c.in-Some.ensures.after ∙ ap (λ (x : List ℕ). written x out) is);
-    }
+    let is = c.raw.ensures in
+    let fit = front (resolved c.raw.result.now) out c.resolve.new.out c.in_ok-end.end (sym c.in_ok-end.ensures.ok_part ∙ c.resolve.ensures.answer) c.resolve.ensures.after in
+    one_lies c.in_ok-end.end (field_of (message_of c.args.message.now) 1) out c.resolve.new.out (fit.1 ∙ ap length is) (omega (arith, fit.1, fit.2, ap length is)) (c.resolve.ensures.after ∙ ap (λ (x : List ℕ). written x out) is)
