@@ -14,6 +14,7 @@ fn next_byte(s: &[u8]) -> Option<(u8, &[u8])>
 {
     match first_of(s) {
         Front::Over | Front::Broken => None,
+        // two arms: as one, the proof would have to name a step that the checker numbers by itself
         Front::Plain(b, rest) => Some((b, rest)),
         Front::Escape(b, rest) => Some((b, rest)),
     }
