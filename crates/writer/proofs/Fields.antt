@@ -1,15 +1,17 @@
 -- Several fields behind references, written one after the other.
-use Rattle.std.proofs.Common.{◌≡◌, ℕ, ◌+◌, ◌<◌, ◌≤◌, true, List, [], ◌∷◌, ◌++◌, length, get_or, take, drop, Some, None, sym, refl, ap, ◌∙◌, subst, append_assoc, arith, length-append, take-append-drop, Bor}
+use Rattle.std.proofs.Common.{◌≡◌, ℕ, ◌+◌, ◌<◌, ◌≤◌, true, List, [], ◌∷◌, ◌++◌, length, get_or, take, drop, Some, None, Result, false, cond, eqb, append-nil, sym, refl, ap, ◌∙◌, subst, append_assoc, arith, length-append, take-append-drop, Bor}
 use Rattle.std.proofs.lemmas.List.{map_more, map-append, take_all}
-use Rattle.std.proofs.lemmas.Bool.{le-leb, lt-leb, ne_eqb}
+use Rattle.std.proofs.lemmas.Bool.{ne_eqb}
 use Rattle.std.specs.List.{AllByRecursion}
 use Rattle.escape.specs.Spelling.{spelling}
 use Rattle.line.specs.Forms.{Side, is_mark}
 use Rattle.line.specs.Lines.{Message}
-use Rattle.line.specs.declared.fault.Fault.TheVariants.{TooLong, ShortBuffer}
+use Rattle.line.specs.declared.fault.Fault.{Fault}
+use Rattle.line.specs.declared.fault.Fault.TheVariants.{ShortBuffer}
 use Rattle.writer.specs.Canonical.{ended, body_text, head_text, address_text, is_address, first_formed}
 use Rattle.writer.specs.Laws.{Bytes}
-use Rattle.writer.specs.Writing.{Lies, Opened, unclosed, with_fields, room_fault, all_fault, behind_all}
+use Rattle.writer.specs.Writing.{Lies, Opened, Called, unclosed, with_field, with_fields, line_fault, room_fault, add_fault, all_fault, behind_all}
+use Rattle.writer.specs.declared.page.Writer.{Writer}
 use Rattle.writer.proofs.Addresses.{both, never}
 use Rattle.writer.proofs.Opening.{body_more, bytes_more}
 
@@ -24,11 +26,8 @@ module _ (refs : List (Bor (List ℕ))) (i : ℕ) (d : Bor (List ℕ)) (h : i < 
   pub length_more : length (body_text (behind_all (take (i + 1) refs))) ≡ length (body_text (behind_all (take i refs))) + (length (spelling (get_or refs i d).now) + 1)
   length_more = ap length text_more ∙ length-append (body_text (behind_all (take i refs))) (ended (get_or refs i d).now) ∙ ap (λ (n : ℕ). length (body_text (behind_all (take i refs))) + n) (length-append (spelling (get_or refs i d).now) (58 ∷ []))
 
-  pub line_more : (l : List ℕ) → ((l ++ body_text (behind_all (take i refs))) ++ spelling (get_or refs i d).now) ++ (58 ∷ []) ≡ l ++ body_text (behind_all (take (i + 1) refs))
-  line_more l =
-      append_assoc (l ++ body_text (behind_all (take i refs))) (spelling (get_or refs i d).now) (58 ∷ [])
-      ∙ append_assoc l (body_text (behind_all (take i refs))) (ended (get_or refs i d).now)
-      ∙ ap (λ (x : List ℕ). l ++ x) (sym text_more)
+  pub line_more : (body_text (behind_all (take i refs)) ++ spelling (get_or refs i d).now) ++ (58 ∷ []) ≡ body_text (behind_all (take (i + 1) refs))
+  line_more = append_assoc (body_text (behind_all (take i refs))) (spelling (get_or refs i d).now) (58 ∷ []) ∙ sym text_more
 
   pub all_bytes_more : Bytes (behind_all (take i refs)) → AllByRecursion (λ b. b < 256) (get_or refs i d).now → Bytes (behind_all (take (i + 1) refs))
   all_bytes_more bs b = subst Bytes (sym all_more) (bytes_more (behind_all (take i refs)) (get_or refs i d).now bs b)
@@ -73,11 +72,17 @@ module _ (n room : ℕ) (fs : List (List ℕ)) (some : 0 < n) where
   by_size : all_fault n fs room ≡ room_fault (n + length (body_text fs)) room
   by_size = rw (ne_eqb n 0 (λ e. omega arith))
 
-  pub all_long : 1024 < n + length (body_text fs) + 3 → Some TooLong ≡ all_fault n fs room
-  all_long h = sym (by_size ∙ rw (lt-leb (n + length (body_text fs) + 3) 1024 h))
+  pub all_room : None ≡ line_fault (n + length (body_text fs) + 3) room → None ≡ all_fault n fs room
+  all_room e = e ∙ sym by_size
 
-  pub all_no_room : n + length (body_text fs) + 3 ≤ 1024 → room < n + length (body_text fs) + 3 → Some ShortBuffer ≡ all_fault n fs room
-  all_no_room h g = sym (by_size ∙ rw (le-leb (n + length (body_text fs) + 3) 1024 h, lt-leb (n + length (body_text fs) + 3) room g))
-
-  pub all_room : n + length (body_text fs) + 3 ≤ 1024 → n + length (body_text fs) + 3 ≤ room → None ≡ all_fault n fs room
-  all_room h g = sym (by_size ∙ rw (le-leb (n + length (body_text fs) + 3) 1024 h, le-leb (n + length (body_text fs) + 3) room g))
+-- ---- one field, as several
+pub one_field : (a b : Writer) (r : Result (Unit {0}) Fault) (f : List ℕ)
+    → Called a b r (all_fault a.len (f ∷ []) (length a.out.now)) false ((was : List ℕ) (m : Message) → Opened was m a.out.now a.len → Opened was (with_fields m (f ∷ [])) b.out.now b.len)
+    → Called a b r (add_fault a.len f (length a.out.now)) false ((was : List ℕ) (m : Message) → Opened was m a.out.now a.len → Opened was (with_field m f) b.out.now b.len)
+unfolding with_field with_fields
+one_field a b r f h = record {
+  answer = h.answer ∙ ap (λ (x : List ℕ). cond (eqb a.len 0) (Some ShortBuffer) (room_fault (a.len + length x) (length a.out.now))) (append-nil (ended f));
+  state = h.state;
+  bare = h.bare;
+  lender = h.lender;
+}

@@ -6,3 +6,4 @@ pub mod Shorter
 pub mod Repeating
 pub mod Pieces
 pub mod Fields
+pub mod Digits

@@ -1,16 +1,20 @@
 -- Lines as they are begun, added to and closed.
-use Rattle.std.proofs.Common.{◌≡◌, ℕ, suc, ◌+◌, ◌<◌, ◌≤◌, Bool, true, false, cond, leb, List, [], ◌∷◌, ◌++◌, length, get_or, is_some, Some, None, Option, sym, refl, ap, ◌∙◌, subst, append_assoc, append-nil, arith, length-append, w8, Fits}
-use Rattle.std.proofs.lemmas.Bool.{leb-true, le-leb, lt-leb, ne_eqb}
+use Rattle.std.proofs.Common.{◌≡◌, ℕ, suc, ◌+◌, ◌<◌, ◌≤◌, Bool, true, false, cond, leb, List, [], ◌∷◌, ◌++◌, length, get_or, Some, None, Option, sym, refl, ap, ◌∙◌, subst, append_assoc, append-nil, arith, length-append, w8, Fits}
+use Rattle.std.proofs.lemmas.Bool.{le-leb}
 use Rattle.std.specs.List.{AllByRecursion}
 use Rattle.escape.specs.Spelling.{spelling}
 use Rattle.escape.proofs.Chunks.{Tame, tame_spelling}
-use Rattle.line.specs.Forms.{Side, command, answer, Address, every, capital, name_byte, address_of, is_mark, check_of, is_first_field}
+use Rattle.line.specs.Forms.{Side, Address, address_of, is_mark, check_of, is_first_field}
 use Rattle.line.specs.Lines.{Message}
-use Rattle.line.specs.declared.fault.Fault.TheVariants.{TooLong, BadAddress, BadMark, FirstField, ShortBuffer}
-use Rattle.writer.specs.Canonical.{in_two_digits, address_text, ended, body_text, head_text, closed, canonical, is_address, first_formed, sendable}
+use Rattle.line.specs.Meanings.{placed}
+use Rattle.line.specs.declared.fault.Fault.{Fault}
+use Rattle.line.specs.declared.fault.Fault.TheVariants.{BadMark, FirstField}
+use Rattle.writer.specs.Canonical.{in_two_digits, address_text, ended, body_text, head_text, closed, canonical, sendable}
 use Rattle.writer.specs.Laws.{Bytes}
-use Rattle.writer.specs.Writing.{address_read, begun, with_field, unclosed, Lies, Opened, Closed, room_fault, begin_fault, add_fault}
-use Rattle.writer.proofs.Addresses.{both, never, address_was, address_short}
+use Rattle.writer.specs.Writing.{address_read, begun, unclosed, Lies, Opened, Closed, line_head, line_fault, room_fault, head_fault, begin_fault}
+use Rattle.writer.specs.Rewriting.{first_of_both}
+use Rattle.writer.specs.declared.head.Head.{Head}
+use Rattle.writer.proofs.Addresses.{address_was}
 use Rattle.writer.proofs.Backs.{tame_first, reads_back}
 
 -- ---- bytes
@@ -22,100 +26,64 @@ tame_bytes : (s : List ℕ) → AllByRecursion Tame s → AllByRecursion (λ b. 
 tame_bytes [] h = tt
 tame_bytes (b ∷ s) h = (omega (arith, h.0.1), tame_bytes s h.1)
 
--- ---- a first field is short
-pub first_short : (side : Side) (f : List ℕ) → is_first_field side f ≡ true → length f ≤ 64
-first_short command [] e = omega arith
-first_short command (a ∷ s) e =
-    let h = both (capital a) _ e in
-    let k = both (every name_byte s) (leb (length s) 63) h.1 in
-    omega (arith, leb-true (length s) 63 k.1)
-first_short answer [] e = omega arith
-first_short answer (a ∷ []) e = omega arith
-first_short answer (a ∷ b ∷ []) e = omega arith
-first_short answer (a ∷ b ∷ c ∷ []) e = omega arith
-first_short answer (a ∷ b ∷ c ∷ d ∷ s) e = never e
-
-head_length : (a f : List ℕ) (m : ℕ) → spelling f ≡ f → length (head_text a m ++ ended f) ≡ length a + length f + 4
-head_length a f m same = omega (arith, length-append (head_text a m) (ended f), length-append a (47 ∷ m ∷ 47 ∷ []), length-append (spelling f) (58 ∷ []), ap length same)
-
 -- ---- beginning
-module _ (side : Side) (address first : List ℕ) (mark room : ℕ) where
-  pub record FormedHead : Type 0 where
-    pub read : is_some (address_of side address) ≡ true
-    pub mark_is : is_mark side mark ≡ true
-    pub first_is : is_first_field side first ≡ true
+-- what a head has where nothing is refused
+pub head_forms : (side : Side) (a : Address) (mark : ℕ) (first : Bool) → None ≡ head_fault side a mark first → (is_mark side mark ≡ true) × (first ≡ true)
+head_forms side a mark first = go (is_mark side mark) first
+  where
+    go : (p q : Bool) → None ≡ cond p (cond q None (Some (FirstField (length (address_text a) + 3)))) (Some (BadMark (length (address_text a) + 1))) → (p ≡ true) × (q ≡ true)
+    go true true e = (refl, refl)
+    go true false e = let z : ◌≡◌ {A = ℕ} 0 1 = cc in absurd (omega arith)
+    go false q e = let z : ◌≡◌ {A = ℕ} 0 1 = cc in absurd (omega arith)
 
-  same_first : FormedHead → spelling first ≡ first
-  same_first w = tame_spelling first (tame_first side first w.first_is)
+pub line_head_is : (h : Head) (a : Address) (mark : ℕ) → (placed h.address ≡ a) × (h.mark ≡ mark) → line_head h ≡ head_text (address_text a) mark
+line_head_is h a mark same = ap (λ (x : Address). head_text (address_text x) h.mark) same.0 ∙ ap (λ (k : ℕ). head_text (address_text a) k) same.1
 
-  by_forms : FormedHead → begin_fault side address mark first room ≡ room_fault (length (head_text address mark ++ ended first)) room
-  by_forms w = rw (w.read, w.mark_is, w.first_is)
+module _ (side : Side) (address first : List ℕ) (mark : ℕ) (a : Address) (read : address_of side address ≡ Some a) where
+  text : address_text a ≡ address
+  text = (address_was side address a read).text
 
-  pub head_short : FormedHead → length address + length first + 7 ≤ 1024
-  head_short w = go (address_of side address) refl w.read
+  same_first : is_first_field side first ≡ true → spelling first ≡ first
+  same_first e = tame_spelling first (tame_first side first e)
+
+  -- what refuses the head, and else what refuses the length
+  begin_by : (n room : ℕ) → n ≡ length (head_text (address_text a) mark) + length first + 4 → first_of_both (head_fault side a mark (is_first_field side first)) (line_fault n room) ≡ begin_fault side address mark first room
+  begin_by n room size = rw read (go (is_mark side mark) (is_first_field side first) refl)
     where
-      go : (o : Option Address) → address_of side address ≡ o → is_some o ≡ true → length address + length first + 7 ≤ 1024
-      go None p e = never e
-      go (Some a) p e = omega (arith, address_short side address a p, first_short side first w.first_is)
+      whole : is_first_field side first ≡ true → n ≡ length (head_text address mark ++ ended first) + 3
+      whole e = omega (arith, size, length-append (head_text address mark) (ended first), length-append (spelling first) (58 ∷ []), ap length (same_first e), ap (λ (x : List ℕ). length (head_text x mark)) text)
 
-  pub no_room : FormedHead → room < length address + length first + 7 → Some ShortBuffer ≡ begin_fault side address mark first room
-  no_room w h =
-      let n = head_length address first mark (same_first w) in
-      let k = head_short w in
-      let l = length (head_text address mark ++ ended first) in
-      sym (by_forms w ∙ rw (le-leb (l + 3) 1024 (omega arith), lt-leb (l + 3) room (omega arith)))
+      go : (p q : Bool) → is_first_field side first ≡ q → first_of_both (cond p (cond q None (Some (FirstField (length (address_text a) + 3)))) (Some (BadMark (length (address_text a) + 1)))) (line_fault n room)
+          ≡ cond p (cond q (room_fault (length (head_text address mark ++ ended first)) room) (Some (FirstField (length address + 3)))) (Some (BadMark (length address + 1)))
+      go true true e = ap (λ (k : ℕ). line_fault k room) (whole e)
+      go true false e = ap (λ (x : List ℕ). Some (FirstField (length x + 3))) text
+      go false q e = ap (λ (x : List ℕ). Some (BadMark (length x + 1))) text
 
-  pub has_room : FormedHead → length address + length first + 7 ≤ room → None ≡ begin_fault side address mark first room
-  has_room w h =
-      let n = head_length address first mark (same_first w) in
-      let k = head_short w in
-      let l = length (head_text address mark ++ ended first) in
-      sym (by_forms w ∙ rw (le-leb (l + 3) 1024 (omega arith), le-leb (l + 3) room (omega arith)))
+  pub head_refused : (f : Fault) (room : ℕ) → Some f ≡ head_fault side a mark (is_first_field side first) → Some f ≡ begin_fault side address mark first room
+  head_refused f room e =
+      let n = length (head_text (address_text a) mark) + length first + 4 in
+      ap (λ (o : Option Fault). first_of_both o (line_fault n room)) e ∙ begin_by n room refl
 
-  -- what is known where nothing is refused
-  pub record MayBegin : Type 0 where
-    pub forms : FormedHead
-    pub fits : length address + length first + 7 ≤ room
+  pub length_decides : (n room : ℕ) → None ≡ head_fault side a mark (is_first_field side first) → n ≡ length (head_text (address_text a) mark) + length first + 4 → line_fault n room ≡ begin_fault side address mark first room
+  length_decides n room none size = ap (λ (o : Option Fault). first_of_both o (line_fault n room)) none ∙ begin_by n room size
 
-  pub may_begin : None ≡ begin_fault side address mark first room → MayBegin
-  may_begin = by_read (is_some (address_of side address)) refl (is_mark side mark) refl (is_first_field side first) refl
-    where
-      enough : (w : FormedHead) → None ≡ room_fault (length (head_text address mark ++ ended first)) room → MayBegin
-      enough w e =
-          let n = head_length address first mark (same_first w) in
-          let l = length (head_text address mark ++ ended first) in
-          go (leb (l + 3) 1024) (leb (l + 3) room) refl e
-        where
-          go : (p q : Bool) → leb (length (head_text address mark ++ ended first) + 3) room ≡ q → None ≡ cond p (cond q None (Some ShortBuffer)) (Some TooLong) → MayBegin
-          go true true q e = record { forms = w; fits = omega (arith, leb-true (length (head_text address mark ++ ended first) + 3) room q, head_length address first mark (same_first w)) }
-          go true false q e = let z : ◌≡◌ {A = ℕ} 0 1 = cc in absurd (omega arith)
-          go false q0 q e = let z : ◌≡◌ {A = ℕ} 0 1 = cc in absurd (omega arith)
-
-      by_read : (p : Bool) → is_some (address_of side address) ≡ p → (q : Bool) → is_mark side mark ≡ q → (r : Bool) → is_first_field side first ≡ r
-          → None ≡ cond p (cond q (cond r (room_fault (length (head_text address mark ++ ended first)) room) (Some (FirstField (length address + 3)))) (Some (BadMark (length address + 1)))) (Some BadAddress) → MayBegin
-      by_read true p true q true r e = enough (record { read = p; mark_is = q; first_is = r }) e
-      by_read true p true q false r e = let z : ◌≡◌ {A = ℕ} 0 1 = cc in absurd (omega arith)
-      by_read true p false q r0 r e = let z : ◌≡◌ {A = ℕ} 0 1 = cc in absurd (omega arith)
-      by_read false p q0 q r0 r e = let z : ◌≡◌ {A = ℕ} 0 1 = cc in absurd (omega arith)
-
-  pub opened : (was out : List ℕ) (n : ℕ) → FormedHead → 0 < n → Lies was (head_text address mark ++ (first ++ (58 ∷ []))) out n → Opened was (begun side address mark first) out n
+  pub opened : (was out : List ℕ) (n : ℕ) (h : Head) → (placed h.address ≡ a) × (h.mark ≡ mark) → None ≡ head_fault side a mark (is_first_field side first) → 0 < n → Lies was ((line_head h ++ first) ++ (58 ∷ [])) out n
+      → Opened was (begun side address mark first) out n
   unfolding begun
-  opened was out n w some lies = go (address_of side address) refl w.read
-    where
-      go : (o : Option Address) → address_of side address ≡ o → is_some o ≡ true → Opened was (record { side = side; address = address_read o; mark = mark; fields = first ∷ [] }) out n
-      go None p e = never e
-      go (Some a) p e =
-          let h = address_was side address a p in
-          let line : head_text address mark ++ (first ++ (58 ∷ [])) ≡ head_text (address_text a) mark ++ (ended first ++ []) =
-          ap (λ (x : List ℕ). head_text x mark ++ (first ++ (58 ∷ []))) (sym h.text)
-          ∙ ap (λ (x : List ℕ). head_text (address_text a) mark ++ (x ++ (58 ∷ []))) (sym (same_first w))
-          ∙ ap (λ (x : List ℕ). head_text (address_text a) mark ++ x) (sym (append-nil (ended first))) in
-          record {
-            form = rw (h.form, w.mark_is) w.first_is;
-            bytes = (tame_bytes first (tame_first side first w.first_is), tt);
-            some = some;
-            lies = subst (λ (x : List ℕ). Lies was x out n) line lies;
-          }
+  opened was out n h same none some lies =
+      let form = head_forms side a mark (is_first_field side first) none in
+      let line : (line_head h ++ first) ++ (58 ∷ []) ≡ head_text (address_text a) mark ++ (ended first ++ []) =
+      append_assoc (line_head h) first (58 ∷ [])
+      ∙ ap (λ (x : List ℕ). x ++ (first ++ (58 ∷ []))) (line_head_is h a mark same)
+      ∙ ap (λ (x : List ℕ). head_text (address_text a) mark ++ (x ++ (58 ∷ []))) (sym (same_first form.1))
+      ∙ ap (λ (x : List ℕ). head_text (address_text a) mark ++ x) (sym (append-nil (ended first))) in
+      subst (λ (o : Option Address). Opened was (record { side = side; address = address_read o; mark = mark; fields = first ∷ [] }) out n) (sym read)
+      (record {
+        form = rw ((address_was side address a read).form, form.0) form.1;
+        bytes = (tame_bytes first (tame_first side first form.1), tt);
+        some = some;
+        lies = subst (λ (x : List ℕ). Lies was x out n) line lies;
+      })
 
 -- ---- adding
 pub body_more : (fs : List (List ℕ)) (f : List ℕ) → body_text (fs ++ (f ∷ [])) ≡ body_text fs ++ ended f
@@ -125,41 +93,6 @@ body_more (g ∷ fs) f = ap (λ (x : List ℕ). ended g ++ x) (body_more fs f) �
 pub bytes_more : (fs : List (List ℕ)) (f : List ℕ) → Bytes fs → AllByRecursion (λ b. b < 256) f → Bytes (fs ++ (f ∷ []))
 bytes_more [] f h k = (k, tt)
 bytes_more (g ∷ fs) f h k = (h.0, bytes_more fs f h.1 k)
-
-first_kept : (side : Side) (fs : List (List ℕ)) (f : List ℕ) → first_formed side fs ≡ true → first_formed side (fs ++ (f ∷ [])) ≡ true
-first_kept side [] f e = never e
-first_kept side (g ∷ fs) f e = e
-
-pub added : (was out new : List ℕ) (n k : ℕ) (m : Message) (f : List ℕ) → AllByRecursion (λ b. b < 256) f → 0 < k → Opened was m out n → Lies was ((unclosed m ++ spelling f) ++ (58 ∷ [])) new k → Opened was (with_field m f) new k
-unfolding with_field
-added was out new n k m f hb some o lies =
-    let g = both (is_address m.side m.address) _ o.form in
-    let h = both (is_mark m.side m.mark) (first_formed m.side m.fields) g.1 in
-    let head = head_text (address_text m.address) m.mark in
-    let line : (unclosed m ++ spelling f) ++ (58 ∷ []) ≡ unclosed (with_field m f) =
-    append_assoc (unclosed m) (spelling f) (58 ∷ []) ∙ append_assoc head (body_text m.fields) (ended f) ∙ ap (λ (x : List ℕ). head ++ x) (sym (body_more m.fields f)) in
-    record {
-      form = rw (g.0, h.0) (first_kept m.side m.fields f h.1);
-      bytes = bytes_more m.fields f o.bytes hb;
-      some = some;
-      lies = subst (λ (x : List ℕ). Lies was x new k) line lies;
-    }
-
-module _ (n room : ℕ) (f : List ℕ) (some : 0 < n) where
-  size : length (ended f) ≡ length (spelling f) + 1
-  size = length-append (spelling f) (58 ∷ [])
-
-  by_size : add_fault n f room ≡ room_fault (n + length (ended f)) room
-  by_size = rw (ne_eqb n 0 (λ e. omega arith))
-
-  pub add_long : 1024 < n + length (spelling f) + 4 → Some TooLong ≡ add_fault n f room
-  add_long h = let k = size in sym (by_size ∙ rw (lt-leb (n + length (ended f) + 3) 1024 (omega arith)))
-
-  pub add_no_room : n + length (spelling f) + 4 ≤ 1024 → room < n + length (spelling f) + 4 → Some ShortBuffer ≡ add_fault n f room
-  add_no_room h g = let k = size in sym (by_size ∙ rw (le-leb (n + length (ended f) + 3) 1024 (omega arith), lt-leb (n + length (ended f) + 3) room (omega arith)))
-
-  pub add_room : n + length (spelling f) + 4 ≤ 1024 → n + length (spelling f) + 4 ≤ room → None ≡ add_fault n f room
-  add_room h g = let k = size in sym (by_size ∙ rw (le-leb (n + length (ended f) + 3) 1024 (omega arith), le-leb (n + length (ended f) + 3) room (omega arith)))
 
 -- ---- closing
 pub closed_by : (was out new : List ℕ) (m : Message) (n r : ℕ) → n + 3 ≤ 1024 → Opened was m out n → Lies was (closed (unclosed m)) new r → Closed was m new r

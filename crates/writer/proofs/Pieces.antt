@@ -1,32 +1,35 @@
 -- A body taken piece by piece, and written anew.
-use Rattle.std.proofs.Common.{◌≡◌, ℕ, ◌+◌, ◌<◌, ◌≤◌, Bool, true, false, cond, ◌⊎◌, List, [], ◌∷◌, ◌++◌, map, length, Some, None, Ok, Err, Option, Result, sym, refl, ap, ◌∙◌, subst, inl, inr, append_assoc, append-nil, arith}
-use Rattle.std.proofs.lemmas.Bool.{le-leb, lt-leb, ne_eqb, cases_eq}
+use Rattle.std.proofs.Common.{◌≡◌, ℕ, ◌+◌, ◌<◌, true, ◌⊎◌, List, [], ◌∷◌, ◌++◌, map, length, Some, None, Ok, Err, Option, Result, sym, refl, ap, ◌∙◌, subst, inl, inr, append_assoc, append-nil, arith, length-append, Bor}
+use Rattle.std.proofs.lemmas.Bool.{lt-leb, ne_eqb, cases_eq}
 use Rattle.escape.specs.Tokens.{Token, plain, tokens, ahead, parts_of, parts, resolved, bytes_meant}
 use Rattle.escape.specs.Spelling.{spelled, spelling}
 use Rattle.escape.proofs.Opening.{tokens_plain}
 use Rattle.escape.proofs.ByTokens.{tokens_escape, by_tokens}
 use Rattle.escape.proofs.Walking.{parts_other, parts_here, ahead_none}
 use Rattle.escape.proofs.Chunks.{chunk_tame, chunk_means, at_colon}
-use Rattle.line.specs.Forms.{Side, is_mark}
-use Rattle.line.specs.Forms.{Address}
+use Rattle.line.specs.Forms.{Side, Address, check_of, is_first_field}
 use Rattle.line.specs.Lines.{Message, fields_of}
-use Rattle.line.specs.Meanings.{body_fields, message_of}
-use Rattle.line.specs.Fields.{body_of}
+use Rattle.line.specs.Meanings.{placed, body_fields, message_of}
+use Rattle.line.specs.Fields.{body_of, raw_fields}
+use Rattle.line.specs.Reads.{behind}
+use Rattle.std.specs.List.{slice_get}
 use Rattle.line.specs.declared.message.Message.{Message as Held}
 use Rattle.line.proofs.Indices.{message_fields}
 use Rattle.line.specs.declared.fault.Fault.{Fault}
-use Rattle.line.specs.declared.fault.Fault.TheVariants.{TooLong, BadMark, FirstField, ShortBuffer}
-use Rattle.writer.specs.Canonical.{address_text, ended, body_text, head_text, closed, canonical, first_formed}
-use Rattle.writer.specs.Writing.{Lies}
-use Rattle.writer.specs.Rewriting.{forms_fault, line_fault, first_of_both, rewrite_fault, rewrite_answer, rewritten, respelt}
+use Rattle.line.specs.declared.fault.Fault.TheVariants.{TooLong}
+use Rattle.writer.specs.Canonical.{in_two_digits, address_text, ended, body_text, head_text, closed, canonical, first_formed}
+use Rattle.writer.specs.Writing.{Lies, line_head, first_given, head_fault, line_fault}
+use Rattle.writer.specs.declared.head.Head.{Head}
+use Rattle.writer.specs.Rewriting.{forms_fault, first_of_both, rewrite_fault, rewrite_answer, rewritten, respelt}
 use Rattle.writer.proofs.Addresses.{never}
 use Rattle.writer.proofs.Backs.{tame_first}
-use Rattle.writer.proofs.Repeating.{body_parts, canonical_length}
+use Rattle.writer.proofs.Opening.{head_forms, line_head_is}
+use Rattle.writer.proofs.Repeating.{body_parts}
 
 pub plain_piece : (b : ℕ) (ts : List Token) → (b ≡ 58 → ⊥) → spelled b ++ respelt ts ≡ respelt (plain b ∷ ts)
 plain_piece b ts other = rw (ne_eqb b 58 other)
 
-colon_piece : (b : ℕ) (ts : List Token) → b ≡ 58 → respelt (plain b ∷ ts) ≡ 58 ∷ respelt ts
+pub colon_piece : (b : ℕ) (ts : List Token) → b ≡ 58 → respelt (plain b ∷ ts) ≡ 58 ∷ respelt ts
 colon_piece b ts e = ap (λ (c : ℕ). respelt (plain c ∷ ts)) e
 
 -- the fields and the colons between them
@@ -86,46 +89,56 @@ pub record Rewrote (m : Message) (out new : List ℕ) (r : Result ℕ Fault) : T
   pub answer : r ≡ rewrite_answer (canonical m) (rewrite_fault m (length out))
   pub after : new ≡ rewritten (canonical m) out (rewrite_fault m (length out))
 
-refuses : (m : Message) (out : List ℕ) (f : Fault) → Some f ≡ rewrite_fault m (length out) → Rewrote m out out (Err f)
-refuses m out f e = record { answer = ap (rewrite_answer (canonical m)) e; after = ap (rewritten (canonical m) out) e }
-
+-- what refuses the form of a message, and else what refuses the length of its line
 pub refuses_form : (m : Message) (out : List ℕ) (f : Fault) → Some f ≡ forms_fault m → Rewrote m out out (Err f)
 refuses_form m out f e = refuses m out f (ap (λ (o : Option Fault). first_of_both o (line_fault (length (canonical m)) (length out))) e)
+  where
+    refuses : (m : Message) (out : List ℕ) (f : Fault) → Some f ≡ rewrite_fault m (length out) → Rewrote m out out (Err f)
+    refuses m out f e = record { answer = ap (rewrite_answer (canonical m)) e; after = ap (rewritten (canonical m) out) e }
 
 module _ (m : Message) (out : List ℕ) (form : None ≡ forms_fault m) where
-  by_length : rewrite_fault m (length out) ≡ line_fault (length (canonical m)) (length out)
-  by_length = ap (λ (o : Option Fault). first_of_both o (line_fault (length (canonical m)) (length out))) (sym form)
+  by_length : line_fault (length (canonical m)) (length out) ≡ rewrite_fault m (length out)
+  by_length = ap (λ (o : Option Fault). first_of_both o (line_fault (length (canonical m)) (length out))) form
+
+  pub refuses_line : (f : Fault) → Some f ≡ line_fault (length (canonical m)) (length out) → Rewrote m out out (Err f)
+  refuses_line f e = record { answer = ap (rewrite_answer (canonical m)) (e ∙ by_length); after = ap (rewritten (canonical m) out) (e ∙ by_length) }
 
   pub refuses_long : 1024 < length (canonical m) → Rewrote m out out (Err TooLong)
-  refuses_long h = refuses m out TooLong (sym (by_length ∙ rw (lt-leb (length (canonical m)) 1024 h)))
+  refuses_long h = refuses_line TooLong (sym (rw (lt-leb (length (canonical m)) 1024 h)))
 
-  pub refuses_room : length (canonical m) ≤ 1024 → length out < length (canonical m) → Rewrote m out out (Err ShortBuffer)
-  refuses_room h k = refuses m out ShortBuffer (sym (by_length ∙ rw (le-leb (length (canonical m)) 1024 h, lt-leb (length (canonical m)) (length out) k)))
+  pub wrote : (new : List ℕ) (n : ℕ) → None ≡ line_fault (length (canonical m)) (length out) → Lies out (canonical m) new n → Rewrote m out new (Ok n)
+  wrote new n e lies = record { answer = ap Ok lies.len ∙ ap (rewrite_answer (canonical m)) (e ∙ by_length); after = lies.held ∙ ap (rewritten (canonical m) out) (e ∙ by_length) }
 
-  pub wrote : (new : List ℕ) (n : ℕ) → length (canonical m) ≤ 1024 → length (canonical m) ≤ length out → Lies out (canonical m) new n → Rewrote m out new (Ok n)
-  wrote new n h k lies =
-      let e : None ≡ rewrite_fault m (length out) = sym (by_length ∙ rw (le-leb (length (canonical m)) 1024 h, le-leb (length (canonical m)) (length out) k)) in
-      record { answer = ap Ok lies.len ∙ ap (rewrite_answer (canonical m)) e; after = lies.held ∙ ap (rewritten (canonical m) out) e }
-
--- what is known of a message with no fault in its forms
-pub has_forms : (m : Message) → None ≡ forms_fault m → (is_mark m.side m.mark ≡ true) × (first_formed m.side m.fields ≡ true)
-has_forms m = go (is_mark m.side m.mark) (first_formed m.side m.fields)
+-- the first field of a message, from the part of its line
+pub first_is : (side : Side) (m : Held) (o : Option (Bor (List ℕ))) → behind o ≡ slice_get (raw_fields (fields_of (body_of m))) 0 → first_given side o ≡ first_formed side (message_of m).fields
+first_is side m o e = go (fields_of (body_of m)) o e ∙ ap (first_formed side) (sym (message_fields m))
   where
-    go : (p q : Bool) → None ≡ cond p (cond q None (Some (FirstField (length (address_text m.address) + 3)))) (Some (BadMark (length (address_text m.address) + 1))) → (p ≡ true) × (q ≡ true)
-    go true true e = (refl, refl)
-    go true false e = let z : ◌≡◌ {A = ℕ} 0 1 = cc in absurd (omega arith)
-    go false q e = let z : ◌≡◌ {A = ℕ} 0 1 = cc in absurd (omega arith)
+    go : (fs : Option (List ℕ × List (List ℕ))) (o : Option (Bor (List ℕ))) → behind o ≡ slice_get (raw_fields fs) 0 → first_given side o ≡ first_formed side (body_fields fs)
+    go None None e = refl
+    go None (Some r) e = let z : ◌≡◌ {A = ℕ} 0 1 = cc in absurd (omega arith)
+    go (Some f) None e = let z : ◌≡◌ {A = ℕ} 0 1 = cc in absurd (omega arith)
+    go (Some f) (Some r) e = let s : r.now ≡ f.0 = cc in ap (is_first_field side) s
 
--- the canonical line of a message, from the parts that it holds
-module _ (m : Held) (form : None ≡ forms_fault (message_of m)) (a : Address) (k : ℕ) (body : List ℕ) (ea : a ≡ (message_of m).address) (ek : k ≡ (message_of m).mark) (eb : body ≡ body_of m) where
-  pub canonical_is : canonical (message_of m) ≡ closed (head_text (address_text a) k ++ respelt (tokens body))
+pub forms_by : (m : Held) (side : Side) (a : Address) (k : ℕ) (o : Option (Bor (List ℕ))) → side ≡ (message_of m).side → a ≡ (message_of m).address → k ≡ (message_of m).mark
+    → behind o ≡ slice_get (raw_fields (fields_of (body_of m))) 0 → head_fault side a k (first_given side o) ≡ forms_fault (message_of m)
+forms_by m side a k o es ea ek e =
+    ap (λ (x : Side). head_fault x a k (first_given x o)) es
+    ∙ ap (λ (x : Address). head_fault (message_of m).side x k (first_given (message_of m).side o)) ea
+    ∙ ap (λ (x : ℕ). head_fault (message_of m).side (message_of m).address x (first_given (message_of m).side o)) ek
+    ∙ ap (head_fault (message_of m).side (message_of m).address (message_of m).mark) (first_is (message_of m).side m o e)
+
+-- the canonical line of a message, from its head and its body
+module _ (m : Held) (form : None ≡ forms_fault (message_of m)) (h : Head) (body : List ℕ) (same : (placed h.address ≡ (message_of m).address) × (h.mark ≡ (message_of m).mark)) (eb : body ≡ body_of m) where
+  pub canonical_is : canonical (message_of m) ≡ closed (line_head h ++ respelt (tokens body))
   canonical_is =
       let side = (message_of m).side in
-      let first : first_formed side (body_fields (fields_of (body_of m))) ≡ true = subst (λ (fs : List (List ℕ)). first_formed side fs ≡ true) (message_fields m) (has_forms (message_of m) form).1 in
+      let forms = head_forms side (message_of m).address (message_of m).mark (first_formed side (message_of m).fields) form in
+      let first : first_formed side (body_fields (fields_of (body_of m))) ≡ true = subst (λ (fs : List (List ℕ)). first_formed side fs ≡ true) (message_fields m) forms.1 in
       let text : body_text (message_of m).fields ≡ respelt (tokens body) = ap body_text (message_fields m) ∙ respelt_body side (body_of m) first ∙ ap (λ (b : List ℕ). respelt (tokens b)) (sym eb) in
       ap (λ (x : List ℕ). closed (head_text (address_text (message_of m).address) (message_of m).mark ++ x)) text
-      ∙ ap (λ (x : Address). closed (head_text (address_text x) (message_of m).mark ++ respelt (tokens body))) (sym ea)
-      ∙ ap (λ (x : ℕ). closed (head_text (address_text a) x ++ respelt (tokens body))) (sym ek)
+      ∙ ap (λ (x : List ℕ). closed (x ++ respelt (tokens body))) (sym (line_head_is h (message_of m).address (message_of m).mark same))
 
-  pub canonical_size : length (canonical (message_of m)) ≡ length (address_text a) + length (respelt (tokens body)) + 6
-  canonical_size = ap length canonical_is ∙ canonical_length (address_text a) (respelt (tokens body)) k
+  pub canonical_size : length (canonical (message_of m)) ≡ length (line_head h) + length (respelt (tokens body)) + 3
+  canonical_size =
+      let l = line_head h ++ respelt (tokens body) in
+      omega (arith, ap length canonical_is, length-append l (47 ∷ in_two_digits (check_of (l ++ (47 ∷ [])))), length-append (line_head h) (respelt (tokens body)))

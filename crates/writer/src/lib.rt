@@ -1,10 +1,13 @@
 // Writing messages: each has one canonical line, which is written into a buffer of the caller's.
 #![tactic(auto)]
 
+mod adding;
 mod again;
+mod head;
 mod laws;
+mod lengths;
 mod page;
-mod several;
+mod pushing;
 mod spelled;
 mod writing;
 

@@ -5,7 +5,9 @@ ghost use Rattle.std.specs.Prelude.{◌+◌, ◌<◌, ◌≤◌, length};
 // `bare` says that the line is an answer's, with its status alone.
 #[derive(Drop)]
 pub struct Writer<'a> {
+    // fixed memory: the line stays in the caller's buffer, with its length beside it
     pub(crate) out: &'a mut [u8],
+    // 0 where an Option would be None: a byte goes in at this place, and an Option would have to be opened and closed at each
     pub(crate) len: usize,
     pub(crate) bare: bool,
     ghost ready: { (0 < len → len + 3 ≤ length out.now) },

@@ -1,40 +1,65 @@
-use Rattle.std.proofs.Common.{ℕ, List, sym, refl, subst, arith}
-use Rattle.line.specs.Meanings.{message_of, placed}
-use Rattle.writer.specs.Writing.{Lies}
-use Rattle.writer.proofs.Backs.{tame_mark}
-use Rattle.writer.proofs.Pieces.{has_forms, canonical_is, canonical_size, refuses_long, refuses_room, wrote}
+use Rattle.std.proofs.Common.{◌≡◌, ℕ, List, Err, length, sym, ap, ◌∙◌, subst, arith, rules}
+use Rattle.line.specs.declared.fault.Fault.TheVariants.{TooLong}
+use Rattle.line.specs.Meanings.{side_of, placed, message_of}
+use Rattle.writer.specs.Canonical.{canonical}
+use Rattle.writer.specs.Writing.{Lies, line_fault}
+use Rattle.writer.proofs.Pieces.{forms_by, canonical_is, canonical_size, refuses_form, refuses_line, refuses_long, wrote}
 use Rattle.writer.proofs.again.rewrite.Goals as goal
 
-pub returns-in_default-line_len : goal.returns-in_default-line_len
-returns-in_default-line_len c =
+pub returns-in_err-head : goal.returns-in_err-head
+returns-in_err-head c =
     let m = c.args.message.now in
-    let form = c.in_default.ensures in
-    let size = canonical_size m form (placed c.address_of-address.result) (message_of m).mark c.body-body.result.now c.address_of-address.ensures refl c.body-body.ensures in
-    let h = refuses_long (message_of m) c.args.out.now form (omega (arith, size, c.in_default-line_len.ensures)) in
-    record { answer = h.answer; after = h.after }
+    let forms = forms_by m (side_of c.side.result) (placed c.address.result) c.mark.result c.raw_field.result c.side.ensures c.address.ensures c.mark.ensures c.raw_field.ensures in
+    let h = refuses_form (message_of m) c.args.out.now c.in_err-head.field-0.0 (c.in_err-head.ensures.answer ∙ forms) in
+    let e : c.from_residual.result ≡ Err c.in_err-head.field-0.0 = search rules in
+    record { answer = e ∙ h.answer; after = h.after }
 
-pub returns-then-len-out : goal.returns-then-len-out
-returns-then-len-out c =
+pub returns-in_err-body_len : goal.returns-in_err-body_len
+returns-in_err-body_len c =
     let m = c.args.message.now in
-    let form = c.in_default.ensures in
-    let size = canonical_size m form (placed c.address_of-address.result) (message_of m).mark c.body-body.result.now c.address_of-address.ensures refl c.body-body.ensures in
-    let n = c.in-Some-line_len.ensures in
-    let h = refuses_room (message_of m) c.args.out.now form (omega (arith, size, n.0, n.1)) (omega (arith, size, n.0, n.1)) in
-    record { answer = h.answer; after = h.after }
+    let forms = forms_by m (side_of c.side.result) (placed c.address.result) c.mark.result c.raw_field.result c.side.ensures c.address.ensures c.mark.ensures c.raw_field.ensures in
+    let form = c.in_ok-head.ensures.answer ∙ forms in
+    let head = c.in_ok-head.head in
+    let same : (placed head.address ≡ (message_of m).address) × (head.mark ≡ (message_of m).mark) = (c.in_ok-head.ensures.made.0 ∙ c.address.ensures, c.in_ok-head.ensures.made.1 ∙ c.mark.ensures) in
+    let size = canonical_size m form head c.body-body.result.now same c.body-body.ensures in
+    let h = refuses_long (message_of m) c.args.out.now form (omega (arith, size, c.in_err-body_len.ensures)) in
+    let e : c.from_residual-in_err-body_len.result ≡ Err TooLong = search rules in
+    record { answer = e ∙ h.answer; after = h.after }
 
-pub overflow_cast-mark_of : goal.overflow_cast-mark_of
-overflow_cast-mark_of c =
-    let m = message_of c.args.message.now in
-    let h = has_forms m c.in_default.ensures in
-    record { fits = omega (arith, c.mark_of.ensures, (tame_mark m.side m.mark h.0).1) }
+pub returns-in_err-len : goal.returns-in_err-len
+returns-in_err-len c =
+    let m = c.args.message.now in
+    let forms = forms_by m (side_of c.side.result) (placed c.address.result) c.mark.result c.raw_field.result c.side.ensures c.address.ensures c.mark.ensures c.raw_field.ensures in
+    let form = c.in_ok-head.ensures.answer ∙ forms in
+    let head = c.in_ok-head.head in
+    let same : (placed head.address ≡ (message_of m).address) × (head.mark ≡ (message_of m).mark) = (c.in_ok-head.ensures.made.0 ∙ c.address.ensures, c.in_ok-head.ensures.made.1 ∙ c.mark.ensures) in
+    let size = canonical_size m form head c.body-body.result.now same c.body-body.ensures in
+    let h = refuses_long (message_of m) c.args.out.now form (omega (arith, size, c.len.ensures.text, c.in_ok-body_len.ensures, c.in_err-len.ensures)) in
+    let e : c.from_residual-in_err-len.result ≡ Err TooLong = search rules in
+    record { answer = e ∙ h.answer; after = h.after }
+
+pub returns-in_err-fits : goal.returns-in_err-fits
+returns-in_err-fits c =
+    let m = c.args.message.now in
+    let forms = forms_by m (side_of c.side.result) (placed c.address.result) c.mark.result c.raw_field.result c.side.ensures c.address.ensures c.mark.ensures c.raw_field.ensures in
+    let form = c.in_ok-head.ensures.answer ∙ forms in
+    let head = c.in_ok-head.head in
+    let same : (placed head.address ≡ (message_of m).address) × (head.mark ≡ (message_of m).mark) = (c.in_ok-head.ensures.made.0 ∙ c.address.ensures, c.in_ok-head.ensures.made.1 ∙ c.mark.ensures) in
+    let size = canonical_size m form head c.body-body.result.now same c.body-body.ensures in
+    let len : c.in_ok-len.len ≡ length (canonical (message_of m)) = omega (arith, size, c.len.ensures.text, c.in_ok-body_len.ensures, c.in_ok-len.ensures) in
+    let h = refuses_line (message_of m) c.args.out.now form c.in_err-fits.field-0.0 (c.in_err-fits.ensures ∙ ap (λ (k : ℕ). line_fault k (length c.args.out.now)) len) in
+    let e : c.from_residual-in_err-fits.result ≡ Err c.in_err-fits.field-0.0 = search rules in
+    record { answer = e ∙ h.answer; after = h.after }
 
 pub returns : goal.returns
 returns c =
     let m = c.args.message.now in
-    let form = c.in_default.ensures in
-    let size = canonical_size m form (placed c.address_of-address.result) (message_of m).mark c.body-body.result.now c.address_of-address.ensures refl c.body-body.ensures in
-    let is = canonical_is m form (placed c.address_of-address.result) c.mark_of.result c.body-body.result.now c.address_of-address.ensures c.mark_of.ensures c.body-body.ensures in
-    let n = c.in-Some-line_len.ensures in
-    let h = wrote (message_of m) c.args.out.now form c.put_line.new.out c.put_line.result (omega (arith, size, n.0, n.1)) (omega (arith, size, n.0, n.1))
-    (subst (λ (x : List ℕ). Lies c.args.out.now x c.put_line.new.out c.put_line.result) (sym is) c.put_line.ensures) in
+    let forms = forms_by m (side_of c.side.result) (placed c.address.result) c.mark.result c.raw_field.result c.side.ensures c.address.ensures c.mark.ensures c.raw_field.ensures in
+    let form = c.in_ok-head.ensures.answer ∙ forms in
+    let head = c.in_ok-head.head in
+    let same : (placed head.address ≡ (message_of m).address) × (head.mark ≡ (message_of m).mark) = (c.in_ok-head.ensures.made.0 ∙ c.address.ensures, c.in_ok-head.ensures.made.1 ∙ c.mark.ensures) in
+    let size = canonical_size m form head c.body-body.result.now same c.body-body.ensures in
+    let len : c.in_ok-len.len ≡ length (canonical (message_of m)) = omega (arith, size, c.len.ensures.text, c.in_ok-body_len.ensures, c.in_ok-len.ensures) in
+    let h = wrote (message_of m) c.args.out.now form c.put_line.new.out c.put_line.result (c.in_ok-fits.ensures ∙ ap (λ (k : ℕ). line_fault k (length c.args.out.now)) len)
+    (subst (λ (x : List ℕ). Lies c.args.out.now x c.put_line.new.out c.put_line.result) (sym (canonical_is m form head c.body-body.result.now same c.body-body.ensures)) c.put_line.ensures) in
     record { answer = h.answer; after = h.after }

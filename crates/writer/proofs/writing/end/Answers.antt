@@ -1,9 +1,10 @@
-use Rattle.std.proofs.Common.{arith}
-use Rattle.writer.proofs.Growing.{lies_closed}
+use Rattle.std.proofs.Common.{◌∙◌, arith}
+use Rattle.writer.proofs.Digits.{in_two}
+use Rattle.writer.proofs.Growing.{lies_checked}
 use Rattle.writer.proofs.writing.end.Goals as goal
 
-pub returns : goal.returns
-returns c = record {
-  lies = λ was l some o. lies_closed was l c.args.out.now c.args.len c.check_sum-check.result (c.requires some) c.check_sum-check.ensures o;
-  none = λ e. let z : ⊥ = omega arith in elim z [ ];
-}
+pub returns-clause-lies : goal.returns-clause-lies
+returns-clause-lies c = λ was l some o.
+    let one = c.put-at.ensures.lies was l o in
+    let two = c.digits-check.ensures ∙ in_two c.from.result (omega arith) in
+    lies_checked was l _ _ _ c.put-at.result _ c.from.result two one.len (c.from.ensures ∙ c.check_sum.ensures) one (c.put.ensures.lies was _ one)

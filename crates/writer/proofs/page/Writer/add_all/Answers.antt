@@ -1,30 +1,16 @@
-use Rattle.std.proofs.Common.{length, refl, arith}
-use Rattle.writer.specs.Writing.{unclosed, behind_all}
-use Rattle.writer.proofs.Fields.{added_all, all_long, all_no_room, all_room}
+use Rattle.std.proofs.Common.{ℕ, ◌+◌, length, refl, ap, ◌∙◌, arith}
+use Rattle.writer.specs.Writing.{unclosed, line_fault, behind_all}
+use Rattle.writer.proofs.Fields.{added_all, all_room}
 use Rattle.writer.proofs.page.Writer.add_all.Goals as goal
-
-pub returns-in_default : goal.returns-in_default
-returns-in_default c =
-    let h = c.in_default.ensures in
-    record { answer = all_long c.args.self.now.len (length c.args.self.now.out.now) (behind_all c.args.fields.now) (omega arith) (omega arith); state = refl; bare = tt; lender = refl }
-
-pub returns-then-at-n-gt-LINE_MAX : goal.returns-then-at-n-gt-LINE_MAX
-returns-then-at-n-gt-LINE_MAX c =
-    let h = c.in-Some.ensures in
-    record { answer = all_long c.args.self.now.len (length c.args.self.now.out.now) (behind_all c.args.fields.now) (omega arith) (omega arith); state = refl; bare = tt; lender = refl }
-
-pub returns-then-at-n : goal.returns-then-at-n
-returns-then-at-n c =
-    let h = c.in-Some.ensures in
-    record { answer = all_no_room c.args.self.now.len (length c.args.self.now.out.now) (behind_all c.args.fields.now) (omega arith) (omega arith) (omega arith); state = refl; bare = tt; lender = refl }
 
 pub returns : goal.returns
 returns c =
-    let h = c.in-Some.ensures in
-    let n = c.push_fields.ensures.len in
+    let fs = behind_all c.args.fields.now in
+    let room = length c.args.self.now.out.now in
+    let n = c.in_ok-len.ensures in
     record {
-      answer = all_room c.args.self.now.len (length c.args.self.now.out.now) (behind_all c.args.fields.now) (omega arith) (omega arith) (omega arith);
-      state = λ was m o. added_all was c.args.self.now.out.now c.push_fields.new.self.out.now c.args.self.now.len c.push_fields.new.self.len m (behind_all c.args.fields.now) c.push_fields.ensures.bytes (omega arith) o (c.push_fields.ensures.lies was (unclosed m) o.lies);
+      answer = all_room c.args.self.now.len room fs (omega arith) (c.in_ok-fits.ensures ∙ ap (λ (k : ℕ). line_fault (c.args.self.now.len + k + 3) room) n.0);
+      state = λ was m o. added_all was c.args.self.now.out.now c.push_fields.new.self.out.now c.args.self.now.len c.push_fields.new.self.len m fs c.push_fields.ensures.bytes (omega arith) o (c.push_fields.ensures.pushed.lies was (unclosed m) o.lies);
       bare = refl;
-      lender = c.push_fields.ensures.lender;
+      lender = c.push_fields.ensures.pushed.lender;
     }

@@ -1,31 +1,34 @@
-use Rattle.std.proofs.Common.{ℕ, List, ◌++◌, length, ap, ◌∙◌, subst, append_assoc, arith, length-append}
-use Rattle.escape.specs.Tokens.{tokens}
-use Rattle.writer.specs.Writing.{Lies}
-use Rattle.writer.specs.Rewriting.{piece_text, respelt}
+use Rattle.std.proofs.Common.{ℕ, [], List, ◌∷◌, ◌++◌, sym, ap, ◌∙◌, arith}
+use Rattle.escape.specs.Tokens.{Token, tokens}
+use Rattle.escape.specs.Spelling.{spelled}
+use Rattle.escape.proofs.Walking.{shorter}
+use Rattle.writer.specs.Rewriting.{respelt}
+use Rattle.writer.proofs.Growing.{piece_more}
+use Rattle.writer.proofs.Pieces.{plain_piece, colon_piece}
 use Rattle.writer.proofs.page.Writer.push_body.Goals as goal
 
-pub push_piece-requires : goal.push_piece-requires
-push_piece-requires c =
-    let i = c.loop-piece.invariant in
-    let text = ap length c.in-Some.ensures.text in
-    let sum = length-append (piece_text c.in-Some.piece) (respelt (tokens c.in-Some.more.now)) in
-    let whole = ap length i.1 in
-    let halves = length-append i.0 (respelt (tokens c.loop-piece.rest.now)) in
-    let n = i.2 in
-    let room = i.3 in
-    (omega arith, omega arith)
+pub loop-more-smaller-in-Plain-eq58-default : goal.loop-more-smaller-in-Plain-eq58-default
+loop-more-smaller-in-Plain-eq58-default c = shorter c.loop-more.rest.now _ _ c.in-Plain-eq58-default.ensures (omega arith)
 
-pub loop-piece-preserved : goal.loop-piece-preserved
-loop-piece-preserved c =
-    let i = c.loop-piece.invariant in
-    let p = piece_text c.in-Some.piece in
-    let left = respelt (tokens c.in-Some.more.now) in
-    let n = i.2 in
-    let k = c.push_piece.ensures.len in (
-      i.0 ++ p,
-      append_assoc i.0 p left ∙ ap (λ (x : List ℕ). i.0 ++ x) c.in-Some.ensures.text ∙ i.1,
-      omega (arith, length-append i.0 p),
-      c.push_piece.ensures.room ∙ i.3,
-      c.push_piece.ensures.lender ∙ i.4,
-      λ was m o. subst (λ (x : List ℕ). Lies was x c.push_piece.new.self.out.now c.push_piece.new.self.len) (append_assoc m i.0 p) (c.push_piece.ensures.lies was (m ++ i.0) (i.5 was m o)),
-    )
+pub loop-more-preserved-in-Plain-eq58-default : goal.loop-more-preserved-in-Plain-eq58-default
+loop-more-preserved-in-Plain-eq58-default c =
+    let i = c.loop-more.invariant in
+    let text = sym (colon_piece c.in-Plain-eq58-default.field-0 (tokens c.in-Plain-eq58-default.more.now) c.in-Plain-eq58-default.field-0-test) ∙ ap respelt c.in-Plain-eq58-default.ensures in
+    piece_more _ _ _ i.0 (58 ∷ []) _ _ (ap (λ (x : List ℕ). i.0 ++ x) text ∙ i.1) i.2 c.push.ensures
+
+pub loop-more-smaller-in-Plain : goal.loop-more-smaller-in-Plain
+loop-more-smaller-in-Plain c = shorter c.loop-more.rest.now _ _ c.in-Plain.ensures (omega arith)
+
+pub loop-more-preserved-in-Plain : goal.loop-more-preserved-in-Plain
+loop-more-preserved-in-Plain c =
+    let i = c.loop-more.invariant in
+    let text = plain_piece c.in-Plain.b (tokens c.in-Plain.more.now) c.in-Plain.b-test.1 ∙ ap respelt c.in-Plain.ensures in
+    piece_more _ _ _ i.0 (spelled c.in-Plain.b) _ _ (ap (λ (x : List ℕ). i.0 ++ x) text ∙ i.1) i.2 c.push_spelled.ensures
+
+pub loop-more-smaller : goal.loop-more-smaller
+loop-more-smaller c = shorter c.loop-more.rest.now _ _ c.in-Escape.ensures (omega arith)
+
+pub loop-more-preserved : goal.loop-more-preserved
+loop-more-preserved c =
+    let i = c.loop-more.invariant in
+    piece_more _ _ _ i.0 (spelled c.in-Escape.b) _ _ (ap (λ (ts : List Token). i.0 ++ respelt ts) c.in-Escape.ensures ∙ i.1) i.2 c.push_spelled-in-Escape.ensures

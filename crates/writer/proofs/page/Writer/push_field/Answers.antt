@@ -1,6 +1,6 @@
-use Rattle.std.proofs.Common.{ℕ, ◌+◌, List, ◌++◌, length, ap, ◌∙◌, subst, arith}
-use Rattle.writer.specs.Writing.{Lies}
-use Rattle.writer.proofs.Growing.{spelled_turn, within, longer, spelling_all}
+use Rattle.std.proofs.Common.{◌+◌, sym, subst, arith}
+use Rattle.writer.specs.Writing.{Pushed}
+use Rattle.writer.proofs.Growing.{pushed_both, room_left, spelling_more, within, longer}
 use Rattle.writer.proofs.Opening.{every_byte}
 use Rattle.writer.proofs.page.Writer.push_field.Goals as goal
 
@@ -8,27 +8,12 @@ pub push_spelled-requires : goal.push_spelled-requires
 push_spelled-requires c =
     let s = c.args.field.now in
     let i = c.loop-b.b-index in
-    let m = longer s i (omega arith) in
-    let w = within s (i + 1) in
-    (omega (arith, m, w), omega (arith, m, w))
+    room_left c.args.self.now c.loop-b.self _ _ _ c.requires c.loop-b.invariant (omega (arith, longer s i (omega arith), within s (i + 1)))
 
 pub loop-b-preserved : goal.loop-b-preserved
 loop-b-preserved c =
-    let s = c.args.field.now in
-    let i = c.loop-b.b-index in (
-      omega (arith, c.push_spelled.ensures.len, longer s i (omega arith)),
-      c.push_spelled.ensures.room ∙ c.loop-b.invariant.1,
-      c.push_spelled.ensures.lender ∙ c.loop-b.invariant.2,
-      λ was m o. subst (λ (x : List ℕ). Lies was x c.push_spelled.new.self.out.now c.push_spelled.new.self.len) (spelled_turn m s i (omega arith)) (c.push_spelled.ensures.lies was _ (c.loop-b.invariant.3 was m o)),
-    )
+    subst (Pushed c.args.self.now c.push_spelled.new.self) (sym (spelling_more c.args.field.now c.loop-b.b-index (omega arith)))
+    (pushed_both _ _ _ _ _ c.loop-b.invariant c.push_spelled.ensures)
 
-pub returns : goal.returns
-returns c =
-    let e = spelling_all c.args.field.now c.loop-b.b-index (omega arith) in
-    record {
-      len = omega (arith, ap length e);
-      bytes = every_byte c.args.field.now c.type_inv.field;
-      room = c.loop-b.invariant.1;
-      lies = λ was m o. subst (λ (x : List ℕ). Lies was (m ++ x) c.loop-b.self.out.now c.loop-b.self.len) e (c.loop-b.invariant.3 was m o);
-      lender = c.loop-b.invariant.2;
-    }
+pub returns-clause-bytes : goal.returns-clause-bytes
+returns-clause-bytes c = every_byte c.args.field.now c.type_inv.field

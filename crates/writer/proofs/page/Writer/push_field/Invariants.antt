@@ -1,11 +1,7 @@
-use Rattle.std.proofs.Common.{◌≡◌, ℕ, ◌+◌, List, ◌++◌, length, take}
+use Rattle.std.proofs.Common.{take}
 use Rattle.escape.specs.Spelling.{spelling}
-use Rattle.writer.specs.Writing.{Lies}
+use Rattle.writer.specs.Writing.{Pushed}
 use Rattle.writer.proofs.page.Writer.push_field.Given as goal
 
 abbrev pub invariant-loop-b : goal.invariant-loop-b
-invariant-loop-b l =
-    (l.self.len ≡ l.initial.self.len + length (spelling (take l.b-index l.field)))
-    × (length l.self.out.now ≡ length l.initial.self.out.now)
-    × (l.self.out.ghost_name ≡ l.initial.self.out.ghost_name)
-    × ((was m : List ℕ) → Lies was m l.initial.self.out.now l.initial.self.len → Lies was (m ++ spelling (take l.b-index l.field)) l.self.out.now l.self.len)
+invariant-loop-b l = Pushed l.initial.self l.self (spelling (take l.b-index l.field))
