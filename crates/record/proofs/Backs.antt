@@ -1,5 +1,5 @@
 -- What is written of a record is read back.
-use Rattle.std.proofs.Common.{◌≡◌, ℕ, zero, suc, ◌+◌, ◌-◌, ◌*◌, ◌/◌, ◌%◌, ◌^◌, ◌<◌, ◌≤◌, Bool, true, false, cond, leb, List, [], ◌∷◌, ◌++◌, length, take, drop, Some, None, Ok, Err, codes, Option, Result, OnOk, if◌then◌else◌, sym, refl, ap, ◌∙◌, subst, mod-lt, mod-eq_of_lt, mul_assoc, add-mul, arith, pow-add}
+use Rattle.std.proofs.Common.{◌≡◌, ℕ, zero, suc, ◌+◌, ◌-◌, ◌*◌, ◌/◌, ◌%◌, ◌^◌, ◌<◌, ◌≤◌, Bool, true, false, cond, leb, List, [], ◌∷◌, ◌++◌, length, take, drop, Some, None, Ok, Err, codes, Option, Result, MatchResult, OnOk, if◌then◌else◌, sym, refl, ap, ◌∙◌, subst, mod-lt, mod-eq_of_lt, mul_assoc, add-mul, arith, pow-add}
 use native.Mathlib.Nat.{pow-le-pow_right}
 use lib.Arith.{mod-mul}
 use Rattle.std.specs.Borrow.{Bor}
@@ -11,7 +11,7 @@ use Rattle.line.specs.Reads.{behind}
 use Rattle.line.specs.Lines.{Message}
 use Rattle.line.specs.declared.fault.Fault.{Fault}
 use Rattle.line.specs.declared.fault.Fault.TheVariants.{RecordForm}
-use Rattle.writer.specs.Writing.{begun, with_fields, refusal, all_fault}
+use Rattle.writer.specs.Writing.{Called, begun, with_fields, all_fault}
 use Rattle.writer.specs.declared.page.Writer.{Writer}
 use Rattle.record.specs.Records.{is_kind, if_kind, field_of, else_wrong, mode_numbered, mode_of, number_in, count_in, mode_in, speed_in, texts, play_status, overview}
 use Rattle.record.specs.Writes.{mode_number, status_fields, title_fields, overview_fields, wrong_status, unless_wrong, within, part, Adds, Written, Alone, StatusBack, TitleRead, TitleBack, OverviewRead, OverviewBack}
@@ -161,14 +161,13 @@ status_back s e m a = alone_with m (status_fields s) a (λ x. play_status x ≡ 
 
 -- ---- what adding its fields promises of a record whose values fit
 pub written_fields : (r : Result (Unit {0}) Fault) (wrong : Option ℕ) (given fields : List (List ℕ)) (before after : Writer) → true ≡ before.bare → None ≡ wrong → given ≡ fields
-    → refusal r ≡ all_fault before.len given (length before.out.now)
-    → elim r as (λ (x : Result (Unit {0}) Fault). Type 0) [ Ok x ↦ Adds given before after | Err f ↦ after ≡ before ]
-    → elim r as (λ (x : Result (Unit {0}) Fault). Type 0) [ Ok x ↦ after.bare ≡ false | Err f ↦ Unit {0} ]
-    → after.out.ghost_name ≡ before.out.ghost_name → Written wrong fields before after r
-written_fields (Ok x) wrong given fields before after b w e said state bare lender =
-    record { answer = rw (← b, ← w, ← e) said; state = subst (λ (fs : List (List ℕ)). Adds fs before after) e state; bare = bare; lender = lender }
-written_fields (Err f) wrong given fields before after b w e said state bare lender =
-    record { answer = rw (← b, ← w, ← e) said; state = state; bare = tt; lender = lender }
+    → Called before after r (all_fault before.len given (length before.out.now)) false (Adds given before after) → Written wrong fields before after r
+written_fields r wrong given fields before after b w e done = record {
+  answer = rw (← b, ← w, ← e) done.answer;
+  state = subst (λ (fs : List (List ℕ)). MatchResult r (λ _. Adds fs before after) (λ _. after ≡ before)) e done.state;
+  bare = done.bare;
+  lender = done.lender;
+}
 
 pub if_written : (r : Result (Unit {0}) Fault) (P : Type 0) → P → OnOk r P
 if_written (Ok x) P p = p

@@ -1,10 +1,10 @@
 -- The three records, as they are written behind the status of an answer.
-use Rattle.std.specs.Prelude.{◌≡◌, ℕ, ◌-◌, ◌≤◌, Bool, false, cond, List, [], ◌∷◌, ◌++◌, length, take, drop, Some, None, Ok, codes, Option, Result, nat_le, MatchResult, OnOk}
+use Rattle.std.specs.Prelude.{◌≡◌, ℕ, ◌-◌, ◌≤◌, Bool, false, cond, List, [], ◌∷◌, ◌++◌, length, take, drop, Some, None, Ok, codes, Option, Result, nat_le}
 use Rattle.line.specs.Forms.{answer}
 use Rattle.line.specs.Lines.{Message}
 use Rattle.line.specs.declared.fault.Fault.{Fault}
 use Rattle.line.specs.declared.fault.Fault.TheVariants.{RecordForm}
-use Rattle.writer.specs.Writing.{Opened, with_fields, refusal, all_fault}
+use Rattle.writer.specs.Writing.{Opened, Called, with_fields, all_fault}
 use Rattle.writer.specs.declared.page.Writer.{Writer}
 use Rattle.numeral.specs.Numbers.{in_digits, in_count}
 use Rattle.record.specs.Records.{field_of, texts, play_status, title_name, overview}
@@ -79,13 +79,8 @@ abbrev pub Adds : List (List ℕ) → Writer → Writer → Type 0
 Adds fields before after = (was : List ℕ) (m : Message) → Opened was m before.out.now before.len → Opened was (with_fields m fields) after.out.now after.len
 
 -- what a call answers that writes a record, and what the writer holds afterwards
-pub record Written (wrong : Option ℕ) (fields : List (List ℕ)) (before after : Writer) (result : Result (Unit {0}) Fault) : Type 0 where
-  pub answer : refusal result ≡ write_fault before.bare wrong before.len fields (length before.out.now)
-  -- the fields stand behind the status, or the writer is as it was
-  pub state : MatchResult result (λ _. Adds fields before after) (λ _. after ≡ before)
-  pub bare : OnOk result (after.bare ≡ false)
-  -- the buffer is still the one that was lent
-  pub lender : after.out.ghost_name ≡ before.out.ghost_name
+abbrev pub Written : Option ℕ → List (List ℕ) → Writer → Writer → Result (Unit {0}) Fault → Type 0
+Written wrong fields before after result = Called before after result (write_fault before.bare wrong before.len fields (length before.out.now)) false (Adds fields before after)
 
 -- ---- the way round: what was written behind any answer's status is read back
 pub record Alone (m : Message) : Type 0 where

@@ -16,7 +16,7 @@ returns-clause-written c =
     c.if-not-is_bare.ensures
     (ap (λ (b : Bool). cond b None (Some 2)) t.0 ∙ ap (λ (b : Bool). cond b (cond (within s.title text) None (Some 2)) (Some 1)) h.0)
     (overview_fields_are handle.now title.now _ _ (part s.handle text) (part s.title text) s.lines s.total h.1 t.1 c.count_digits.ensures.digits c.count_digits-2.ensures.digits)
-    c.add_all.ensures.answer c.add_all.ensures.state c.add_all.ensures.bare c.add_all.ensures.lender
+    c.add_all.ensures
 
 pub returns-clause-back : goal.returns-clause-back
 returns-clause-back c =

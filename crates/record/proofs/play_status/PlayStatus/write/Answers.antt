@@ -12,7 +12,7 @@ returns-clause-written c =
     (status_fields_are s _ _ _ _ _ _ _ _ (c.digits.ensures ∙ ap (in_digits 1) c.from.ensures) (c.digits-2.ensures ∙ ap (in_digits 1) c.from-2.ensures)
     (c.digits-3.ensures ∙ ap (in_digits 2) c.from-3.ensures) c.digits-4.ensures c.digits-5.ensures
     (c.digits-6.ensures ∙ ap (in_digits 3) c.from-4.ensures) c.digits-7.ensures c.digits-8.ensures)
-    c.add_all.ensures.answer c.add_all.ensures.state c.add_all.ensures.bare c.add_all.ensures.lender
+    c.add_all.ensures
 
 pub returns-clause-back : goal.returns-clause-back
 returns-clause-back c = if_written c.add_all.result _ (status_back c.args.self.now (none_wrong (wrong_status c.args.self.now) c.in_ok-check_fields.ensures))
