@@ -3,3 +3,4 @@ pub mod Tokens
 pub mod Fronts
 pub mod Spelling
 pub mod Resolving
+pub mod Texts

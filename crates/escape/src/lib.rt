@@ -10,7 +10,7 @@ const BYTE_MAX: u16 = 255;
 
 mod resolving;
 
-pub use resolving::{resolve, resolved_len};
+pub use resolving::{means, resolve, resolved_len};
 
 // What stands at the front of some bytes, and the bytes after it.
 #[derive(Clone, Copy)]

@@ -2,6 +2,7 @@
 ghost use Rattle.std.specs.Prelude.{◌≡◌, length};
 ghost use Rattle.escape.specs.Tokens.{resolved};
 ghost use Rattle.escape.specs.Resolving.{fitting, written, meant_by, Shorter};
+ghost use Rattle.escape.specs.Texts.{same_bytes};
 
 use crate::{Front, first_of};
 
@@ -46,4 +47,21 @@ pub fn resolve(field: &[u8], out: &mut [u8]) -> Option<usize>
         rest = more;
     }
     Some(n)
+}
+
+// Whether a field, with its escapes resolved, is the text.
+pub fn means(field: &[u8], text: &[u8]) -> bool
+    ensures { result ≡ same_bytes (resolved field.now) text.now }
+{
+    let mut rest = field;
+    for b in text {
+        let Some((meant, more)) = next_byte(rest) else {
+            return false;
+        };
+        if meant != *b {
+            return false;
+        }
+        rest = more;
+    }
+    next_byte(rest).is_none()
 }

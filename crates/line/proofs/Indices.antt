@@ -87,13 +87,22 @@ message_fields (Answer a m b) = refl
 message_fields (Event a b) = refl
 message_fields (Command a m b c) = refl
 
+pub field_none : (m : Message) (n : ℕ) → None ≡ slice_get (raw_fields (fields_of (body_of m))) n → None ≡ slice_get (message_of m).fields n
+field_none m n e = meant_none (fields_of (body_of m)) n e ∙ ap (λ (fs : List (List ℕ)). slice_get fs n) (sym (message_fields m))
+
+pub field_first : (m : Message) (n : ℕ) (f : List ℕ) → Some f ≡ slice_get (raw_fields (fields_of (body_of m))) n → n ≡ 0 → Some f ≡ slice_get (message_of m).fields n
+field_first m n f e z = meant_first (fields_of (body_of m)) n f e z ∙ ap (λ (fs : List (List ℕ)). slice_get fs n) (sym (message_fields m))
+
+pub field_later : (m : Message) (n : ℕ) (f : List ℕ) → Some f ≡ slice_get (raw_fields (fields_of (body_of m))) n → (n ≡ 0 → ⊥) → Some (resolved f) ≡ slice_get (message_of m).fields n
+field_later m n f e z = meant_later (fields_of (body_of m)) n f e z ∙ ap (λ (fs : List (List ℕ)). slice_get fs n) (sym (message_fields m))
+
 pub record Answered (out new : List ℕ) (index : ℕ) (r : Result ℕ Fault) (field : Option (List ℕ)) : Type 0 where
   pub answer : r ≡ field_answer index (length out) field
   pub after : new ≡ field_written out field
 
 pub no_field : (m : Message) (out : List ℕ) (index : ℕ) → None ≡ slice_get (raw_fields (fields_of (body_of m))) index → Answered out out index (Err (NoField index)) (slice_get (message_of m).fields index)
 no_field m out index e =
-    let n : None ≡ slice_get (message_of m).fields index = meant_none (fields_of (body_of m)) index e ∙ ap (λ (fs : List (List ℕ)). slice_get fs index) (sym (message_fields m)) in
+    let n = field_none m index e in
     record { answer = ap (field_answer index (length out)) n; after = ap (field_written out) n }
 
 or_short : (bs : List ℕ) (index room : ℕ) → ok_or (fitting bs room) ShortBuffer ≡ field_answer index room (Some bs)

@@ -1,6 +1,7 @@
 -- The fields of a message by their index: as they stand in the line, and as they are meant.
-use Rattle.std.specs.Prelude.{ℕ, cond, List, [], ◌∷◌, length, Some, None, Ok, Err, Option, Result, nat_le}
+use Rattle.std.specs.Prelude.{ℕ, Bool, false, cond, List, [], ◌∷◌, length, Some, None, Ok, Err, Option, Result, nat_le}
 use Rattle.escape.specs.Resolving.{written}
+use Rattle.escape.specs.Texts.{same_bytes}
 use Rattle.line.specs.declared.fault.Fault.{Fault}
 use Rattle.line.specs.declared.fault.Fault.TheVariants.{ShortBuffer, NoField}
 use Rattle.line.specs.declared.message.Message.{Message}
@@ -30,3 +31,8 @@ field_answer index room (Some bs) = cond (nat_le (length bs) room) (Ok (length b
 abbrev pub field_written : List ℕ → Option (List ℕ) → List ℕ
 field_written out None = out
 field_written out (Some bs) = written bs out
+
+-- ---- a field compared with a text: it is there, and is the text
+abbrev pub is_text : List ℕ → Option (List ℕ) → Bool
+is_text text None = false
+is_text text (Some f) = same_bytes f text

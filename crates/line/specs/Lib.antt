@@ -5,3 +5,4 @@ pub mod Meanings
 pub mod Reads
 pub mod Cuts
 pub mod Fields
+pub mod Shown

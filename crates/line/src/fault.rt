@@ -1,6 +1,9 @@
 // Why something is turned away: each reason has a number, and mostly a place and a layer.
-ghost use Rattle.std.specs.Prelude.{◌≡◌};
+ghost use Rattle.std.specs.Prelude.{◌≡◌, Some};
 ghost use Rattle.line.specs.Meanings.{number_of, place_of, layer_of};
+ghost use Rattle.line.specs.Shown.{layer_name};
+
+use std::fmt;
 
 // The part of the reader that turned a line away.
 #[derive(Clone, Copy, PartialEq, Eq, Debug)]
@@ -10,6 +13,19 @@ pub enum Layer {
     Body,
     // the fields of a message
     Record,
+}
+
+impl fmt::Display for Layer {
+    ghost output = { λ layer. Some (layer_name layer) };
+
+    fn fmt<W: fmt::Write>(&self, f: &mut fmt::Formatter<W>) -> fmt::Result {
+        match self {
+            Layer::Line => f.write_str("line"),
+            Layer::Parts => f.write_str("parts"),
+            Layer::Body => f.write_str("body"),
+            Layer::Record => f.write_str("record"),
+        }
+    }
 }
 
 // The places are in the line, from 0.

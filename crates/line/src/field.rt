@@ -6,12 +6,12 @@ ghost use Rattle.escape.specs.Resolving.{fitting, written};
 ghost use Rattle.line.specs.Lines.{fields_of};
 ghost use Rattle.line.specs.Meanings.{message_of};
 ghost use Rattle.line.specs.Reads.{behind};
-ghost use Rattle.line.specs.Fields.{body_of, raw_fields, before_last, field_answer, field_written};
+ghost use Rattle.line.specs.Fields.{body_of, raw_fields, before_last, field_answer, field_written, is_text};
 
 use crate::body::first_field;
 use crate::fault::Fault;
 use crate::message::Message;
-use escape::{cut, resolve};
+use escape::{cut, means, resolve};
 
 // The part of a body before the colon of that index.
 fn part_at(body: &[u8], index: usize) -> Option<&[u8]>
@@ -77,5 +77,17 @@ impl<'a> Message<'a> {
             resolve(raw, out)
         };
         written.ok_or(Fault::ShortBuffer)
+    }
+
+    // Whether a field is there and, with its escapes resolved, is the text.
+    pub fn field_is(&self, index: usize, text: &[u8]) -> bool
+        ensures { result ≡ is_text text.now (slice_get (message_of self.now).fields index) }
+    {
+        match self.raw_field(index) {
+            None => false,
+            // a status or name has no escapes
+            Some(raw) if index == 0 => raw == text,
+            Some(raw) => means(raw, text),
+        }
     }
 }

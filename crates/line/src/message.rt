@@ -1,4 +1,6 @@
 // What a line says: its message borrows address and body from the line.
+ghost use Rattle.std.specs.Prelude.{◌≡◌};
+ghost use Rattle.line.specs.Meanings.{side_of, placed, message_of};
 
 // Who speaks: a command goes to a player, an answer comes from one.
 #[derive(Clone, Copy, PartialEq, Eq, Debug)]
@@ -34,4 +36,35 @@ pub enum Message<'a> {
         body: &'a [u8],
         check: Option<u8>,
     },
+}
+
+impl<'a> Message<'a> {
+    // Who speaks.
+    pub fn side(&self) -> Side
+        ensures { side_of result ≡ (message_of self.now).side }
+    {
+        match self {
+            Message::Command { .. } => Side::Command,
+            Message::Answer { .. } | Message::Event { .. } => Side::Answer,
+        }
+    }
+
+    pub fn address(&self) -> Address<'a>
+        ensures { placed result ≡ (message_of self.now).address }
+    {
+        match self {
+            Message::Answer { address, .. }
+            | Message::Event { address, .. }
+            | Message::Command { address, .. } => *address,
+        }
+    }
+
+    pub fn mark(&self) -> char
+        ensures { result ≡ (message_of self.now).mark }
+    {
+        match self {
+            Message::Answer { mark, .. } | Message::Command { mark, .. } => *mark,
+            Message::Event { .. } => '!',
+        }
+    }
 }
