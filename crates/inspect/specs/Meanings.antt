@@ -1,12 +1,10 @@
 -- What the values of the code mean.
-use Rattle.std.specs.Prelude.{ℕ, ◌<◌, List, [], length, Some, None, codes, Option}
+use Rattle.std.specs.Prelude.{ℕ, ◌<◌, List, length, Some, None, Option}
 use Rattle.std.specs.Borrow.{Bor}
 use Rattle.std.specs.Option.{option_map, unwrap_or}
 use Rattle.line.specs.Forms.{Side as Said}
 use Rattle.line.specs.Meanings.{side_of, number_of, place_of}
 use Rattle.line.specs.declared.message.Side.{Side}
-use Rattle.line.specs.declared.fault.Layer.{Layer}
-use Rattle.line.specs.declared.fault.Layer.TheVariants.{Line, Parts, Body, Record}
 use Rattle.inspect.specs.Rows.{commands, answers, event, notice, unknown, fault, unsendable, told}
 use Rattle.inspect.specs.Rows.{Kind as Kinds, Row as Rows}
 use Rattle.inspect.specs.declared.row.Kind.{Kind}
@@ -24,13 +22,6 @@ Shorter s (Some p) = length p.1.now < length s
 
 abbrev pub side_said : Option Side → Option Said
 side_said o = option_map side_of o
-
-abbrev pub layer_name : Option Layer → List ℕ
-layer_name None = []
-layer_name (Some Line) = codes "line"
-layer_name (Some Parts) = codes "parts"
-layer_name (Some Body) = codes "body"
-layer_name (Some Record) = codes "record"
 
 abbrev pub kind_said : Kind → Kinds
 kind_said Command = commands

@@ -1,14 +1,14 @@
 // The row that is printed for a line: what the line means, with its canonical line, or why it means nothing.
 ghost use Rattle.std.specs.Prelude.{◌≡◌, true, length};
 ghost use Rattle.line.specs.Lines.{meant};
-ghost use Rattle.line.specs.Meanings.{message_of, number_of, layer_of};
+ghost use Rattle.line.specs.Meanings.{message_of};
 ghost use Rattle.writer.specs.Canonical.{formed};
 ghost use Rattle.inspect.specs.Rows.{side_by, kind_of, row_of_read, row_for};
-ghost use Rattle.inspect.specs.Meanings.{layer_name, side_said, kind_said, row_said};
+ghost use Rattle.inspect.specs.Meanings.{side_said, kind_said, row_said};
 
-use line::{Fault, Layer, Message, Side, read};
+use console::Text;
+use line::{Fault, Message, Side, read};
 use std::fmt;
-use std::str::from_utf8;
 use writer::rewrite;
 
 // What a message is by its side and mark.
@@ -34,42 +34,29 @@ pub(crate) enum Row<'a> {
 impl fmt::Display for Kind {
     fn fmt<W: fmt::Write>(&self, f: &mut fmt::Formatter<W>) -> fmt::Result {
         match self {
-            Kind::Command => write!(f, "COMMAND"),
-            Kind::Answer => write!(f, "ANSWER"),
-            Kind::Event => write!(f, "EVENT"),
-            Kind::Notice => write!(f, "NOTICE"),
+            Kind::Command => f.write_str("COMMAND"),
+            Kind::Answer => f.write_str("ANSWER"),
+            Kind::Event => f.write_str("EVENT"),
+            Kind::Notice => f.write_str("NOTICE"),
         }
-    }
-}
-
-// The layer that turned a line away; every fault of a line has one.
-fn layer_name(fault: &Fault) -> &'static str
-    ensures { result.now ≡ layer_name (layer_of (number_of fault.now)) }
-{
-    match fault.layer() {
-        Some(Layer::Line) => "line",
-        Some(Layer::Parts) => "parts",
-        Some(Layer::Body) => "body",
-        Some(Layer::Record) => "record",
-        None => "",
     }
 }
 
 impl<'a> fmt::Display for Row<'a> {
     fn fmt<W: fmt::Write>(&self, f: &mut fmt::Formatter<W>) -> fmt::Result {
         match self {
-            Row::Unknown => write!(f, "?"),
+            Row::Unknown => f.write_str("?"),
             Row::Fault(fault) => {
                 let number = fault.number();
                 let place = fault.place().unwrap_or(0);
-                let layer = layer_name(fault);
-                write!(f, "FAULT {number} {place} {layer}")
+                match fault.layer() {
+                    Some(layer) => write!(f, "FAULT {number} {place} {layer}"),
+                    None => write!(f, "FAULT {number} {place} "),
+                }
             }
-            Row::Unsendable => write!(f, "UNSENDABLE"),
+            Row::Unsendable => f.write_str("UNSENDABLE"),
             Row::Meant(kind, line) => {
-                let Ok(text) = from_utf8(line) else {
-                    return Err(fmt::Error);
-                };
+                let text = Text(line);
                 write!(f, "{kind} {text}")
             }
         }
@@ -90,14 +77,11 @@ fn side_by(first: u8) -> Option<Side>
 fn kind_of(message: &Message<'_>) -> Kind
     ensures { kind_said result ≡ kind_of (message_of message.now) }
 {
-    match message {
-        Message::Command { .. } => Kind::Command,
-        Message::Event { .. } => Kind::Event,
-        Message::Answer { mark, .. } => match *mark {
-            '!' => Kind::Event,
-            '?' => Kind::Notice,
-            _ => Kind::Answer,
-        },
+    match (message.side(), message.mark()) {
+        (Side::Command, _) => Kind::Command,
+        (Side::Answer, '!') => Kind::Event,
+        (Side::Answer, '?') => Kind::Notice,
+        (Side::Answer, _) => Kind::Answer,
     }
 }
 
