@@ -1,5 +1,4 @@
 pub mod Lawful
 pub mod Texts
-pub mod Listings
 pub mod Kept
 pub mod Standing

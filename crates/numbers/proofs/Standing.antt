@@ -1,12 +1,12 @@
 -- From how one number stands to the ten, and to the relations of a link's whole life.
-use Rattle.std.proofs.Common.{◌≡◌, ℕ, zero, suc, ◌+◌, ◌-◌, ◌%◌, ◌<◌, ◌≤◌, Bool, true, false, cond, ltb, ◌⊎◌, List, [], ◌∷◌, length, get_or, set, map, Some, None, Option, sym, refl, ap, ◌∙◌, subst, inl, inr, add-one, arith, get_or-set_other, get_or-set_same}
+use Rattle.std.proofs.Common.{◌≡◌, ℕ, zero, suc, ◌+◌, ◌-◌, ◌%◌, ◌<◌, ◌≤◌, Bool, true, false, cond, ltb, ◌⊎◌, List, [], ◌∷◌, length, get_or, set, map, replicate, Some, None, Option, sym, refl, ap, ◌∙◌, subst, inl, inr, add-one, arith, get_or-set_other, get_or-set_same}
 use Rattle.std.specs.List.{find, range_with_len}
 use Rattle.std.specs.Option.{option_map}
-use Rattle.std.proofs.lemmas.List.{set-get_or, get_or_past, get_or_default}
+use Rattle.std.proofs.lemmas.List.{get_or-replicate, set-get_or, get_or_default}
 use Rattle.std.proofs.lemmas.Bool.{cases_eq, cases_lt, lt-ltb, le-ltb}
 use Rattle.line.specs.Lines.{Message, meant}
 use Rattle.life.specs.Answers.{Step, not_next, final, onward, next}
-use Rattle.life.specs.Calls.{Kind, Outcome}
+use Rattle.life.specs.Calls.{Kind, Outcome, foreign}
 use Rattle.life.specs.Link.{Pending, Slot, is_free, is_open, is_answered, is_lost, is_given_up, Same, Put, FirstFree, after_reset, one_if_open, count_open, when_open, when_given_up, Settles, was_answered, was_lost, was_open, not_held, Told, told_unknown, told_elsewhere, told_misplaced, told_more, told_last, told_late, told_late_last}
 use Rattle.numbers.specs.Ours.{ours}
 use Rattle.numbers.specs.Ten.{NextFree}
@@ -70,32 +70,16 @@ inside l n h = rw (lt-ltb n 10 h)
 pub past_free : (l : List Held) (n : ℕ) → 10 ≤ n → standing l n ≡ is_free
 past_free l n h = rw (le-ltb n 10 h)
 
-abbrev all_free : List Held → Bool
-all_free [] = true
-all_free (x ∷ l) = cond (is_free_slot (slot_of x)) (all_free l) false
+-- a number beyond 9 is not held, and settling it changes nothing
+pub past_kept : (l : List Held) (n : ℕ) → 10 ≤ n → Settles (standing l) n (standing l) foreign
+past_kept l n h = not_held (λ held. rw (past_free l n h) at held) (λ i. refl)
 
-free_each : (l : List Held) → all_free l ≡ true → (n : ℕ) → slot_of (get_or l n Free) ≡ is_free
-free_each [] e n = ap slot_of (get_or_past [] n Free (omega arith))
-free_each (x ∷ l) e zero = go (slot_of x) refl
+pub all_free : (n : ℕ) → standing (Free ∷ Free ∷ Free ∷ Free ∷ Free ∷ Free ∷ Free ∷ Free ∷ Free ∷ Free ∷ []) n ≡ is_free
+all_free n = go (cases_lt n 10)
   where
-    go : (y : Slot) → slot_of x ≡ y → slot_of x ≡ is_free
-    go is_free q = q
-    go (is_open p) q = let f : false ≡ true = rw q at e in let z : ◌≡◌ {A = ℕ} 0 1 = cc in absurd (omega arith)
-    go is_answered q = let f : false ≡ true = rw q at e in let z : ◌≡◌ {A = ℕ} 0 1 = cc in absurd (omega arith)
-    go is_lost q = let f : false ≡ true = rw q at e in let z : ◌≡◌ {A = ℕ} 0 1 = cc in absurd (omega arith)
-    go (is_given_up p) q = let f : false ≡ true = rw q at e in let z : ◌≡◌ {A = ℕ} 0 1 = cc in absurd (omega arith)
-free_each (x ∷ l) e (suc n) = free_each l (later (is_free_slot (slot_of x)) e) n
-  where
-    later : (v : Bool) → cond v (all_free l) false ≡ true → all_free l ≡ true
-    later true f = f
-    later false f = let z : ◌≡◌ {A = ℕ} 0 1 = cc in absurd (omega arith)
-
-pub free_all : (l : List Held) → all_free l ≡ true → (n : ℕ) → standing l n ≡ is_free
-free_all l e n = go (ltb n 10)
-  where
-    go : (v : Bool) → cond v (slot_of (get_or l n Free)) is_free ≡ is_free
-    go true = free_each l e n
-    go false = refl
+    go : (n < 10) ⊎ (10 ≤ n) → standing (replicate 10 Free) n ≡ is_free
+    go (inl h) = inside (replicate 10 Free) n h ∙ ap slot_of (get_or-replicate 10 n Free Free h)
+    go (inr h) = past_free (replicate 10 Free) n h
 
 pub put_at : (l : List Held) (n k : ℕ) (x : Held) → k ≡ n → k < length l → k < 10 → Put (standing l) n (slot_of x) (standing (set l k x))
 put_at l n k x e lt small = rw e (record {

@@ -19,6 +19,7 @@ pub use slot::{Match, Outcome, Pending, Slot};
 pub use ten::Numbers;
 
 // Lines are read and written as the promises need it.
+#[tactic(auto, using(crate::proofs::Lawful::lawful))]
 pub fn codec_is_lawful()
     ensures { Lawful ours }
 {}

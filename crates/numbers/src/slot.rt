@@ -15,7 +15,7 @@ use std::fmt;
 #[derive(Clone, Copy)]
 pub struct Pending {
     pub address: CommandAddress,
-    // the rules of its answer
+    // Which rules hold for its answer. One enum of this and the listing would be a narrower type: a step is told for every pair.
     pub browse: bool,
     // none before an overview
     pub listing: Option<Listing>,

@@ -12,6 +12,8 @@ use line::Message;
 
 const TEN: u8 = 10;
 
+// A slot is read and written by its index: of an element that `get_mut` or a method would lend out of an array, no contract
+// says what the array is afterwards (tried: the proof did not close).
 #[derive(Drop)]
 pub struct Numbers {
     slots: [Slot; 10],
@@ -20,6 +22,7 @@ pub struct Numbers {
 
 impl Numbers {
     // All are free, and 0 is given first.
+    #[tactic(auto, using(crate::proofs::Standing::all_free), unfolding(crate::specs::Ten::slots_of))]
     pub fn new() -> Numbers
         ensures slots { (n : ℕ) → slots_of result n ≡ is_free }
         ensures recent { result.recent ≡ 9 }
@@ -40,6 +43,7 @@ impl Numbers {
     }
 
     // The number n is open, with this command, and is the one last given; a number beyond 9 changes nothing.
+    #[tactic(auto, using(crate::proofs::Standing::put_at), unfolding(crate::specs::Ten::slots_of))]
     pub fn open(&mut self, n: u8, pending: Pending)
         ensures slots { n < 10 → Put (slots_of self.old) n (is_open (pending_of pending)) (slots_of self.new) }
         ensures recent { n < 10 → self.new.recent ≡ n }
@@ -52,6 +56,7 @@ impl Numbers {
     }
 
     // The ticket of the number n is settled.
+    #[tactic(auto, using(crate::proofs::Standing::foreign_kept), unfolding(crate::specs::Ten::slots_of))]
     pub fn settle(&mut self, n: u8) -> Outcome
         ensures slots { Settles (slots_of self.old) n (slots_of self.new) (outcome_of result) }
         ensures recent { self.new.recent ≡ self.old.recent }
@@ -67,6 +72,7 @@ impl Numbers {
     }
 
     // What is told of an answer line with the number n.
+    #[tactic(auto, using(crate::proofs::Standing::past_free, crate::proofs::Standing::told_put, crate::proofs::Standing::told_kind), unfolding(crate::specs::Ten::slots_of))]
     pub fn told(&mut self, n: u8, message: &Message<'_>) -> Match
         ensures slots { n < 10 → Put (slots_of self.old) n (tells n (slots_of self.old n) (message_of message.now)).1 (slots_of self.new) }
         ensures kind { kind_of n result ≡ (tells n (slots_of self.old n) (message_of message.now)).0 }
@@ -84,6 +90,7 @@ impl Numbers {
     }
 
     // Ends all commands, and answers how many numbers became lost.
+    #[tactic(auto, using(crate::proofs::Standing::reset_none, crate::proofs::Standing::reset_ended), unfolding(crate::specs::Ten::slots_of))]
     pub fn reset(&mut self) -> u8
         ensures count { result ≡ count_open 10 (slots_of self.old) }
         ensures slots { (n : ℕ) → slots_of self.new n ≡ after_reset (slots_of self.old n) }

@@ -14,22 +14,21 @@ fn numbers_in_fields(rt: HostRuntime) {
 }
 
 fn told(numbers: &mut Numbers, line: &[u8]) -> Option<Match> {
-    match read(Side::Answer, line) {
-        Ok(message) => Some(numbers.told(3, &message)),
-        Err(_) => None,
-    }
+    let message = read(Side::Answer, line).ok()?;
+    Some(numbers.told(3, &message))
+}
+
+fn begun(line: &[u8]) -> Option<Pending> {
+    Pending::begun(&read(Side::Command, line).ok()?)
 }
 
 fn opened(numbers: &mut Numbers, n: u8, line: &[u8]) -> bool {
-    match read(Side::Command, line) {
-        Ok(message) => match Pending::begun(&message) {
-            Some(pending) => {
-                numbers.open(n, pending);
-                true
-            }
-            None => false,
-        },
-        Err(_) => false,
+    match begun(line) {
+        Some(pending) => {
+            numbers.open(n, pending);
+            true
+        }
+        None => false,
     }
 }
 

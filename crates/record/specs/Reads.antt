@@ -5,10 +5,6 @@ use Rattle.line.specs.Lines.{Message}
 use Rattle.line.specs.declared.fault.Fault.{Fault}
 use Rattle.record.specs.Records.{field_of, texts}
 
-abbrev pub Below : ℕ → Option ℕ → Type 0
-Below limit None = Unit {0}
-Below limit (Some n) = n < limit
-
 abbrev pub ReadBelow : ℕ → Result ℕ Fault → Type 0
 ReadBelow limit (Err f) = Unit {0}
 ReadBelow limit (Ok n) = n < limit

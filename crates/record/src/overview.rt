@@ -1,18 +1,18 @@
 // BROWSE_RESULTS_OVERVIEW: what the player found at a handle: its title, the lines in the window, and the lines in all.
-ghost use Rattle.std.specs.Prelude.{◌≡◌, ◌+◌, false, [], ◌∷◌, length, IfOk, Some, Ok, Err, nat_le};
+ghost use Rattle.std.specs.Prelude.{◌≡◌, ◌+◌, ◌≤◌, false, [], ◌∷◌, length, IfOk, Some, Ok, Err, nat_le};
 ghost use Rattle.line.specs.Meanings.{message_of};
 ghost use Rattle.record.specs.Records.{field_of, texts, is_overview, overview, if_read};
 ghost use Rattle.record.specs.Reads.{Put};
 ghost use Rattle.record.specs.Shown.{overview_text};
 ghost use Rattle.record.specs.Spans.{Lies};
-ghost use Rattle.record.specs.Writes.{overview_fields, part, wrong_texts, write_fault, Adds, OverviewBack};
+ghost use Rattle.record.specs.Writes.{last_of, overview_fields, part, wrong_texts, write_fault, Adds, OverviewBack};
 ghost use Rattle.writer.specs.Writing.{refusal, all_fault};
 
-use crate::digits::{count_width, five_digits, last_of};
 use crate::fields::{count_at, field_at, is_kind};
 use crate::span::Span;
 use escape::{resolve, resolved_len};
 use line::{Fault, Message};
+use numeral::{count_width, digits};
 use std::fmt;
 use writer::Writer;
 
@@ -28,6 +28,14 @@ fn is_overview(message: &Message) -> bool
     ensures { result ≡ is_overview (message_of message.now) }
 {
     is_kind(message, b"BROWSE_RESULTS_OVERVIEW", 4)
+}
+
+// The last of five digits.
+fn last_of(digits: &[u8; 5], width: usize) -> &[u8]
+    requires { width ≤ 5 }
+    ensures { result.now ≡ last_of width digits.now }
+{
+    &digits[5 - width..5]
 }
 
 fn fits_both(first: usize, second: usize, room: usize) -> bool
@@ -95,8 +103,8 @@ impl BrowseResultsOverview {
         let Some(title) = self.title.of(text) else {
             return Err(Fault::RecordForm(2));
         };
-        let lines = five_digits(self.lines as u32);
-        let total = five_digits(self.total as u32);
+        let lines = digits(self.lines as u32);
+        let total = digits(self.total as u32);
         let lines = last_of(&lines, count_width(self.lines));
         let total = last_of(&total, count_width(self.total));
         add_overview(

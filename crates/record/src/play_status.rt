@@ -1,16 +1,16 @@
 // PLAY_STATUS: what the player plays, how, and where it is in title and chapter. Lengths and locations are in seconds.
 ghost use Rattle.std.specs.Prelude.{◌≡◌, IfOk, Some, None};
 ghost use Rattle.line.specs.Meanings.{message_of};
-ghost use Rattle.numeral.specs.Numbers.{at_most};
+ghost use Rattle.numeral.specs.Numbers.{at_most, Below};
 ghost use Rattle.record.specs.Records.{mode_in, speed_in, play_status};
-ghost use Rattle.record.specs.Reads.{Below, ReadBelow};
+ghost use Rattle.record.specs.Reads.{ReadBelow};
 ghost use Rattle.record.specs.Writes.{wrong_status};
 ghost use Rattle.record.specs.Shown.{position_text, status_text};
 
 use crate::fields::{field_at, is_kind, number_at};
 use crate::mode::PlayMode;
-use crate::number::numeral;
 use line::{Fault, Message};
+use numeral::field_number;
 use std::fmt;
 
 // The highest speed of a scan.
@@ -39,7 +39,7 @@ fn speed_of(n: u32) -> Option<u8>
 fn mode_in(message: &Message) -> Result<PlayMode, Fault>
     ensures { result ≡ mode_in (message_of message.now) }
 {
-    match numeral(field_at(message, 1), 1) {
+    match field_number(field_at(message, 1), 1) {
         Some(n) => PlayMode::numbered(n).ok_or(Fault::RecordForm(1)),
         None => Err(Fault::RecordForm(1)),
     }
@@ -49,7 +49,7 @@ fn speed_in(message: &Message) -> Result<u8, Fault>
     ensures value { result ≡ speed_in (message_of message.now) }
     ensures small { ReadBelow 4 result }
 {
-    match numeral(field_at(message, 2), 1) {
+    match field_number(field_at(message, 2), 1) {
         Some(n) => speed_of(n).ok_or(Fault::RecordForm(2)),
         None => Err(Fault::RecordForm(2)),
     }

@@ -3,9 +3,9 @@ ghost use Rattle.std.specs.Prelude.{◌≡◌, false, length, Some, None, Ok, Er
 ghost use Rattle.writer.specs.Writing.{refusal, all_fault};
 ghost use Rattle.record.specs.Writes.{row_fields, status_fields, wrong_status, write_fault, Adds, StatusBack};
 
-use crate::digits::five_digits;
 use crate::play_status::PlayStatus;
 use line::Fault;
+use numeral::digits;
 use writer::Writer;
 
 // The name, and five digits for each field, of which the last count.
@@ -67,14 +67,14 @@ impl PlayStatus {
     {
         Rows {
             name: *b"PLAY_STATUS",
-            mode: five_digits(self.mode.number()),
-            speed: five_digits(self.speed as u32),
-            title_number: five_digits(self.title_number as u32),
-            title_length: five_digits(self.title_length),
-            title_location: five_digits(self.title_location),
-            chapter_number: five_digits(self.chapter_number as u32),
-            chapter_length: five_digits(self.chapter_length),
-            chapter_location: five_digits(self.chapter_location),
+            mode: digits(self.mode.number()),
+            speed: digits(self.speed as u32),
+            title_number: digits(self.title_number as u32),
+            title_length: digits(self.title_length),
+            title_location: digits(self.title_location),
+            chapter_number: digits(self.chapter_number as u32),
+            chapter_length: digits(self.chapter_length),
+            chapter_location: digits(self.chapter_location),
         }
     }
 

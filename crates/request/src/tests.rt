@@ -28,10 +28,8 @@ fn written_in_one_way(rt: HostRuntime) {
 fn refusal(address: &[u8], number: u8, body: &[u8]) -> Option<(u8, Option<usize>)> {
     let request = Request { address, body };
     let mut out = [0u8; 1024];
-    match request.prepare(number, &mut out) {
-        Ok(_) => None,
-        Err(fault) => Some((fault.number(), fault.place())),
-    }
+    let fault = request.prepare(number, &mut out).err()?;
+    Some((fault.number(), fault.place()))
 }
 
 #[test]

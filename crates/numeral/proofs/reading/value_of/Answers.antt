@@ -24,7 +24,7 @@ loop-d-preserved c =
     let t = ten_times c.loop-d.d-index in (
       omega (arith, c.loop-d.invariant.0),
       ap (λ (k : ℕ). spelled_on (c.loop-d.n * 10 + k) (drop (c.loop-d.d-index + 1) c.args.digits.now)) c.from.ensures
-      ∙ sym (digit_on c.args.digits.now c.loop-d.n c.loop-d.d-index (omega arith) (sym c.if-not-is_digit.ensures)) ∙ c.loop-d.invariant.1,
+          ∙ sym (digit_on c.args.digits.now c.loop-d.n c.loop-d.d-index (omega arith) (sym c.if-not-is_digit.ensures)) ∙ c.loop-d.invariant.1,
     )
 
 pub returns : goal.returns

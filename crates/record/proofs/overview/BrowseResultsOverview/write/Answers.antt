@@ -17,8 +17,8 @@ returns c =
     let given = codes "BROWSE_RESULTS_OVERVIEW" ∷ handle ∷ title ∷ lines ∷ total ∷ [] in
     let fields = overview_fields (part s.handle text) (part s.title text) s.lines s.total in
     let e : given ≡ fields = overview_fields_are handle title lines total (part s.handle text) (part s.title text) s.lines s.total h.1 t.1
-    (c.last_of-lines.ensures ∙ count_digits s.lines c.five_digits-lines.result c.count_width.result c.five_digits-lines.ensures c.count_width.ensures)
-    (c.last_of-total.ensures ∙ count_digits s.total c.five_digits-total.result c.count_width-2.result c.five_digits-total.ensures c.count_width-2.ensures) in
+    (c.last_of-lines.ensures ∙ count_digits s.lines c.digits-lines.result c.count_width.result c.digits-lines.ensures c.count_width.ensures)
+    (c.last_of-total.ensures ∙ count_digits s.total c.digits-total.result c.count_width-2.result c.digits-total.ensures c.count_width-2.ensures) in
     record {
       answer = may_write _ w.bare (wrong_texts s.handle s.title text) w.len (length w.out.now) given fields c.add_overview.ensures.answer e c.if-not-is_bare.ensures
           (ap (λ (b : Bool). cond b None (Some 2)) t.0 ∙ ap (λ (b : Bool). cond b (cond (within s.title text) None (Some 2)) (Some 1)) h.0);
