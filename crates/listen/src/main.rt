@@ -13,11 +13,11 @@ const ROWS_MAX: usize = 65536;
 fn tell(rt: &HostRuntime, mut link: Link<Tape>) -> anyhow::Result<()> {
     let mut buffer = [0; 1024];
     for _ in 0..ROWS_MAX {
-        let Ok(pumped) = link.pump(&mut buffer) else {
-            return Err(anyhow!("the buffer is too small for a line"));
-        };
+        let pumped = link
+            .pump(&mut buffer)
+            .map_err(|_| anyhow!("the buffer is too small for a line"))?;
         rt.println(pumped)?;
-        if let Pumped::Dry = pumped {
+        if matches!(pumped, Pumped::Dry) {
             break;
         }
     }

@@ -3,10 +3,12 @@
 #![tactic(auto)]
 
 use anyhow::anyhow;
+use line::Fault;
 use link::{Link, Pumped, message};
 use numbers::{Outcome, number_of};
 use port::Port;
 use serial::Serial;
+use std::fmt;
 
 // What a player answers to the search: an overview that announces two lines, and these.
 const FIRST_PIECE: &[u8] =
@@ -23,11 +25,11 @@ fn announced(link: &mut Link<Serial>, buffer: &mut [u8]) -> Option<u16> {
         return None;
     };
     let overview = message(buffer, length)?;
-    let count = number_of(overview.raw_field(4)?);
-    count
+    number_of(overview.raw_field(4)?)
 }
 
 // Takes what is left of the answer, and says how many lines it was.
+// A loop, since each turn changes the link: a closure of an iterator would hide that.
 fn lines_left(link: &mut Link<Serial>, buffer: &mut [u8]) -> usize {
     for lines in 0..LINES_MAX {
         let Ok(Pumped::Line { .. }) = link.pump(buffer) else {
@@ -44,43 +46,43 @@ struct Found {
     outcome: Outcome,
 }
 
+impl fmt::Display for Found {
+    fn fmt<W: fmt::Write>(&self, f: &mut fmt::Formatter<W>) -> fmt::Result {
+        match self.announced {
+            Some(count) => write!(f, "{count} announced, ")?,
+            None => f.write_str("nothing announced, ")?,
+        }
+        let lines = self.lines;
+        write!(f, "{lines} came, ")?;
+        match self.outcome {
+            Outcome::Answered => f.write_str("answered"),
+            Outcome::GivenUp => f.write_str("given up"),
+            Outcome::Lost => f.write_str("lost"),
+            Outcome::Foreign => f.write_str("foreign"),
+        }
+    }
+}
+
 // The ticket is spent on every way out, answered or not.
-fn search(link: &mut Link<Serial>) -> Option<Found> {
-    let Ok(ticket) = link.submit(b"01.01", b"BROWSE:Al:") else {
-        return None;
-    };
+fn search(link: &mut Link<Serial>) -> Result<Found, Fault> {
+    let ticket = link.submit(b"01.01", b"BROWSE:Al:")?;
     let mut buffer = [0; 1024];
     let _ = link.arrive(FIRST_PIECE);
     let announced = announced(link, &mut buffer);
     let _ = link.arrive(SECOND_PIECE);
     let lines = lines_left(link, &mut buffer);
     let outcome = link.settle(ticket);
-    Some(Found {
+    Ok(Found {
         announced,
         lines,
         outcome,
     })
 }
 
-fn outcome_name(outcome: Outcome) -> &'static str {
-    match outcome {
-        Outcome::Answered => "answered",
-        Outcome::GivenUp => "given up",
-        Outcome::Lost => "lost",
-        Outcome::Foreign => "foreign",
-    }
-}
-
 fn run(rt: &HostRuntime) -> anyhow::Result<()> {
     let mut link = Link::new(Serial::new(), 1);
-    let Some(found) = search(&mut link) else {
-        return Err(anyhow!("the search was refused"));
-    };
-    let (lines, outcome) = (found.lines, outcome_name(found.outcome));
-    match found.announced {
-        Some(count) => println!(rt; "{count} announced, {lines} came, {outcome}")?,
-        None => println!(rt; "nothing announced, {lines} came, {outcome}")?,
-    }
+    let found = search(&mut link).map_err(|_| anyhow!("the search was refused"))?;
+    rt.println(found)?;
     Ok(())
 }
 

@@ -4,8 +4,11 @@ ghost use Rattle.serial.specs.Sizes.{capacity};
 
 mod methods;
 
+// The promises say 2,048 by themselves (`capacity`), so the check refuses another size here.
 pub const PLACES: usize = 2048;
 
+// Fixed memory: the bytes stay in place, with the place and the length of what is held beside them.
+// It is no `Model`, since what a copy of one run promises names `head` and `len`, which a model would hide from clauses.
 #[derive(Drop)]
 pub struct Queue {
     bytes: [u8; PLACES],

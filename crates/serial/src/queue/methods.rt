@@ -1,4 +1,6 @@
 // What can be done with a queue: bytes go in and out in runs, at most two copies to a call.
+#![tactic(auto, using(crate::proofs::Rings::length_ring, crate::proofs::Rings::ring_run, crate::proofs::Rings::ring_rest), unfolding(crate::specs::Queues::held))]
+
 ghost use Rattle.std.specs.Prelude.{◌≡◌, ◌+◌, ◌-◌, ◌<◌, ◌≤◌, [], ◌++◌, length, drop};
 ghost use Rattle.serial.specs.Queues.{held, Put, Got, Run, Shown, Wrapped};
 ghost use Rattle.serial.specs.Sizes.{capacity};
@@ -66,7 +68,7 @@ impl Queue {
         ensures { Put self.old self.new src.now result }
     {
         let k = src.len().min(PLACES - self.len());
-        self.put_all(&src[0..k]);
+        self.put_all(&src[..k]);
         k
     }
 
@@ -77,7 +79,7 @@ impl Queue {
         let k = dst.len().min(self.len);
         let first = k.min(PLACES - self.head);
         let _ = fill_at(dst, 0, &self.bytes[self.head..self.head + first]);
-        let _ = fill_at(dst, first, &self.bytes[0..k - first]);
+        let _ = fill_at(dst, first, &self.bytes[..k - first]);
         k
     }
 

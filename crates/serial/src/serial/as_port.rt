@@ -8,6 +8,7 @@ use crate::serial::Serial;
 use port::Port;
 
 impl Serial {
+    #[tactic(auto, using(port::proofs::Runs::keeps))]
     pub fn new() -> Serial
         ensures meaning { serial result ≡ idle }
         ensures keeps { Keeps (serial result) }

@@ -12,6 +12,7 @@ use std::alloc::{AllocError, Global};
 
 impl Tape {
     // A tape that plays the recording, with so many places to write.
+    #[tactic(auto, using(port::proofs::Runs::keeps, std::proofs::lemmas::List::take_all))]
     pub fn new(heap: Global, recording: Vec<u8>, places: usize) -> Result<Tape, AllocError>
         ensures meaning { IfOk result (λ t. tape t ≡ blank recording.items places) }
         ensures keeps { IfOk result (λ t. Keeps (tape t)) }
