@@ -2,10 +2,10 @@
 use Rattle.std.proofs.Common.{◌≡◌, ℕ, ◌+◌, ◌-◌, ◌*◌, ◌^◌, ◌<◌, ◌≤◌, Bool, true, false, cond, leb, List, ◌++◌, length, get_or, take, drop, Some, None, sym, refl, ap, ◌∙◌, arith, pow-add}
 use native.Mathlib.Nat.{pow-le-pow_right, sub-zero}
 use Rattle.std.proofs.lemmas.List.{drop_more, drop_all, take_at}
-use Rattle.std.proofs.lemmas.Bool.{leb-true, leb-false, ne_eqb, lt-leb}
+use Rattle.std.proofs.lemmas.Bool.{leb-true, leb-false, ne_eqb, lt-leb, le-leb}
 use Rattle.escape.specs.Tokens.{digit}
 use Rattle.escape.specs.Resolving.{fitting, written}
-use Rattle.numeral.specs.Numbers.{spelled_on, numeral, at_most, counted}
+use Rattle.numeral.specs.Numbers.{spelled_on, numeral, short_numeral, at_most, counted}
 
 -- fewer than five digits spell a number below 10,000
 pub few : (i : ℕ) → i < 5 → 10 ^ i ≤ 10000
@@ -56,6 +56,24 @@ too_many bs out e = go (leb (length bs) (length out)) refl e
 -- a number of more digits than a record's have is no numeral and no count
 pub no_numeral : (bs : List ℕ) (width : ℕ) → width ≤ 5 → 5 < length bs → None ≡ numeral width bs
 no_numeral bs width h k = sym (ap (λ (t : Bool). cond t (spelled_on 0 bs) None) (ne_eqb (length bs) width (λ e. omega arith)))
+
+-- five digits at most, so a number of more is none
+pub short_fits : (width : ℕ) (bs : List ℕ) → length bs ≤ 5 → numeral width bs ≡ short_numeral width bs
+short_fits width bs few = go (leb width 5) refl
+  where
+    go : (t : Bool) → leb width 5 ≡ t → numeral width bs ≡ cond t (numeral width bs) None
+    go true e = refl
+    go false e = let more = leb-false width 5 e in ap (λ (t : Bool). cond t (spelled_on 0 bs) None) (ne_eqb (length bs) width (λ same. omega arith))
+
+pub short_none : (width : ℕ) (bs : List ℕ) → 5 < length bs → None ≡ short_numeral width bs
+short_none width bs more = go (leb width 5) refl
+  where
+    go : (t : Bool) → leb width 5 ≡ t → None ≡ cond t (numeral width bs) None
+    go true e = no_numeral bs width (leb-true width 5 e) more
+    go false e = refl
+
+pub short_is : (width : ℕ) (bs : List ℕ) → width ≤ 5 → short_numeral width bs ≡ numeral width bs
+short_is width bs few = ap (λ (t : Bool). cond t (numeral width bs) None) (le-leb width 5 few)
 
 pub no_count : (bs : List ℕ) → 5 < length bs → None ≡ counted bs
 no_count bs k = go (leb 1 (length bs))

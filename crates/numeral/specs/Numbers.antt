@@ -11,6 +11,10 @@ spelled_on n (d ∷ ds) = cond (digit d) (spelled_on (n * 10 + (d - 48)) ds) Non
 abbrev pub numeral : ℕ → List ℕ → Option ℕ
 numeral width s = cond (length s == width) (spelled_on 0 s) None
 
+-- the same of at most five digits
+abbrev pub short_numeral : ℕ → List ℕ → Option ℕ
+short_numeral width s = cond (nat_le width 5) (numeral width s) None
+
 abbrev pub at_most : ℕ → Option ℕ → Option ℕ
 at_most most None = None
 at_most most (Some n) = cond (nat_le n most) (Some n) None

@@ -2,7 +2,7 @@
 ghost use Rattle.std.specs.Prelude.{◌≡◌, ◌^◌, ◌≤◌, length};
 ghost use Rattle.std.specs.Option.{option_copied};
 ghost use Rattle.escape.specs.Tokens.{digit, resolved};
-ghost use Rattle.numeral.specs.Numbers.{spelled_on, numeral, counted, if_fits, Below};
+ghost use Rattle.numeral.specs.Numbers.{spelled_on, numeral, short_numeral, counted, if_fits, Below};
 
 use escape::resolve;
 
@@ -33,7 +33,7 @@ fn value_of(digits: &[u8]) -> Option<u32>
 
 // The number that exactly so many digits spell.
 fn number(digits: &[u8], width: usize) -> Option<u32>
-    requires { width ≤ 5 }
+    requires { length digits.now ≤ 5 }
     ensures value { result ≡ numeral width digits.now }
     ensures small { Below (10 ^ width) result }
 {
@@ -61,10 +61,10 @@ fn resolved_in<'b>(field: &[u8], buffer: &'b mut [u8]) -> Option<&'b [u8]>
     Some(&buffer[..len])
 }
 
-// The number that a field of exactly so many digits means.
+// The number that a field of exactly so many digits means; none of more than five.
+#[tactic(auto, using(crate::proofs::Numerals::short_fits, crate::proofs::Numerals::short_none))]
 pub fn field_number(field: &[u8], width: usize) -> Option<u32>
-    requires { width ≤ 5 }
-    ensures value { result ≡ numeral width (resolved field.now) }
+    ensures value { result ≡ short_numeral width (resolved field.now) }
     ensures small { Below (10 ^ width) result }
 {
     let mut buffer = [0; DIGITS_MAX];

@@ -55,7 +55,7 @@ impl<'a> Fields<'a> {
     }
 
     // The number that a field of so many digits means.
-    #[tactic(auto, unfolding(crate::specs::Records::number_in))]
+    #[tactic(auto, using(numeral::proofs::Numerals::short_is), unfolding(crate::specs::Records::number_in))]
     pub(crate) fn number(&self, place: usize, width: usize) -> Result<u32, Fault>
         requires { (place ≤ 8) × (width ≤ 5) }
         ensures value { result ≡ number_in (message_of self.now.message) place width }
