@@ -21,6 +21,19 @@ every_list test (b ∷ s) = go (test b) (every_list test s)
     go true e = e
     go false e = refl
 
+module _ (test : ℕ → Bool) (all s : List ℕ) (i : ℕ) (e : every test all ≡ every test (drop i s)) where
+  every_at : i < length s → every test all ≡ cond (test (get_or s i 0)) (every test (drop (i + 1) s)) false
+  every_at h = let m : every test (drop i s) ≡ cond (test (get_or s i 0)) (every test (drop (i + 1) s)) false = at_drop_more (every test) s i 0 h in e ∙ m
+
+  pub every_more : i < length s → test (get_or s i 0) ≡ true → every test all ≡ every test (drop (i + 1) s)
+  every_more h p = every_at h ∙ ap (λ (b : Bool). cond b (every test (drop (i + 1) s)) false) p
+
+  pub every_stop : i < length s → test (get_or s i 0) ≡ false → false ≡ every test all
+  every_stop h p = sym (every_at h ∙ ap (λ (b : Bool). cond b (every test (drop (i + 1) s)) false) p)
+
+  pub every_all : length s ≤ i → true ≡ every test all
+  every_all h = sym (e ∙ at_drop_all (every test) s i h)
+
 pub sum_more : (s : List ℕ) (i : ℕ) → i < length s → sum (drop i s) ≡ get_or s i 0 + sum (drop (i + 1) s)
 sum_more s i h = at_drop_more sum s i 0 h
 

@@ -1,16 +1,10 @@
 use Rattle.std.proofs.Common.{refl, arith}
 use Rattle.escape.specs.Tokens.{first_broken, tokens}
-use Rattle.escape.proofs.Walking.{shorter, sought_start, sought_more, sought_escape, sought_found, within_sought}
+use Rattle.escape.proofs.Walking.{shorter, sought_start, sought_more, sought_escape}
 use Rattle.escape.proofs.broken_at.Goals as goal
 
 pub loop-more-init : goal.loop-more-init
 loop-more-init c = sought_start c.args.s.now
-
-pub overflow_sub-result : goal.overflow_sub-result
-overflow_sub-result c = within_sought c.args.s.now c.loop-more.rest.now c.loop-more.invariant
-
-pub returns-in-Broken : goal.returns-in-Broken
-returns-in-Broken c = sought_found c.args.s.now c.loop-more.rest.now _ c.in-Broken.ensures c.loop-more.invariant
 
 pub loop-more-smaller-in-Plain : goal.loop-more-smaller-in-Plain
 loop-more-smaller-in-Plain c = shorter c.loop-more.rest.now c.in-Plain.more.now _ c.in-Plain.ensures (omega arith)

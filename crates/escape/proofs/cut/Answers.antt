@@ -6,8 +6,8 @@ use Rattle.escape.proofs.cut.Goals as goal
 pub loop-b-init : goal.loop-b-init
 loop-b-init c = passed_start c.args.at c.args.s.now
 
-pub returns-in-Over : goal.returns-in-Over
-returns-in-Over c = record { parts = passed_all c.args.at c.args.s.now c.loop-b.rest.now _ c.in-Over.ensures refl c.loop-b.invariant; joins = tt }
+pub returns-in-Over-clause-parts : goal.returns-in-Over-clause-parts
+returns-in-Over-clause-parts c = passed_all c.args.at c.args.s.now c.loop-b.rest.now _ c.in-Over.ensures refl c.loop-b.invariant
 
 pub returns-then-b-at : goal.returns-then-b-at
 returns-then-b-at c = record {
