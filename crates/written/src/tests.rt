@@ -7,9 +7,7 @@ use writer::{Writer, rewrite};
 #[test]
 fn down(rt: HostRuntime) -> Result<(), Fail> {
     let mut out = [b'.'; 16];
-    let Ok(message) = read(Side::Command, b"01/1/DOWN:") else {
-        return Err(Fail::new("refused"));
-    };
+    let message = read(Side::Command, b"01/1/DOWN:").map_err(|_| Fail::new("refused"))?;
     assert!(rt; matches!(rewrite(&message, &mut out), Ok(13)));
     assert!(rt; out == *b"01/1/DOWN:/57...");
     Ok(())
@@ -24,9 +22,7 @@ fn every_byte(rt: HostRuntime) -> Result<(), Fail> {
     }
     let mut out = [0; 1024];
     assert!(rt; matches!(command_line(&mut out, '1', b"A", &field), Ok(905)));
-    let Ok(message) = read(Side::Command, &out[0..905]) else {
-        return Err(Fail::new("not read"));
-    };
+    let message = read(Side::Command, &out[0..905]).map_err(|_| Fail::new("not read"))?;
     let mut back = [0; 256];
     assert!(rt; matches!(message.field(1, &mut back), Ok(256)));
     assert!(rt; back == field);
