@@ -19,8 +19,8 @@ fn down(rt: HostRuntime) -> Result<(), Fail> {
 #[test]
 fn every_byte(rt: HostRuntime) -> Result<(), Fail> {
     let mut field = [0; 256];
-    for i in 0..256 {
-        field[i] = i as u8;
+    for (b, n) in field.iter_mut().zip(0..=255) {
+        *b = n;
     }
     let mut out = [0; 1024];
     assert!(rt; matches!(command_line(&mut out, '1', b"A", &field), Ok(905)));
