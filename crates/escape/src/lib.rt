@@ -9,7 +9,8 @@ mod resolving;
 
 pub use resolving::{means, resolve, resolved_len};
 
-// What stands at the front of some bytes, and the bytes after it.
+// What stands at the front of some bytes, and the bytes after it: two kinds of end and two kinds of byte, more than an
+// `Option` or a `Result` can say.
 #[derive(Clone, Copy)]
 pub enum Front<'a> {
     // nothing is left

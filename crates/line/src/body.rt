@@ -54,6 +54,7 @@ fn all_ended(fields: &[u8]) -> bool
     ensures { result ≡ is_some (all_ended (parts 58 fields.now)) }
 {
     let mut rest = fields;
+    // no index is counted: an iterator of fields would give no word of what is left behind the last
     loop {
         match cut(rest, b':') {
             Some((_, after)) => rest = after,

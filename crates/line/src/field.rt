@@ -29,6 +29,7 @@ fn copy_to_front(bytes: &[u8], out: &mut [u8]) -> Option<usize>
     ensures answer { result ≡ fitting bytes.now (length out.old) }
     ensures after { out.new ≡ written bytes.now out.old }
 {
+    // tried: `out.get_mut(..bytes.len())?`; the proof of what `out` then holds did not close
     if bytes.len() > out.len() {
         return None;
     }
