@@ -1,7 +1,7 @@
 -- Induction over a list of bytes by its tokens, and what follows from it at once.
-use Rattle.std.proofs.Common.{◌≡◌, ℕ, Bool, true, false, eqb, List, [], ◌∷◌, ◌++◌, Some, None, Option, sym, refl, ap, ◌∙◌, subst, append-nil, eqb-true}
+use Rattle.std.proofs.Common.{◌≡◌, ℕ, ◌≤◌, Bool, true, false, eqb, List, [], ◌∷◌, ◌++◌, length, Some, None, Option, sym, refl, ap, ◌∙◌, subst, append-nil, arith, length-append, eqb-true}
 use borrow.Author.Tests.{eqb-false}
-use Rattle.escape.specs.Tokens.{escape, broken, tokens, escaping, short, numbered, text}
+use Rattle.escape.specs.Tokens.{Token, escape, broken, tokens, escaping, short, numbered, text, bytes_meant, resolved}
 use Rattle.escape.proofs.Opening.{tokens_plain, after_short, not_d}
 
 -- the bytes after a backslash that make an escape for the byte
@@ -55,3 +55,11 @@ text_tokens =
     (λ b s ne h. ap text (tokens_plain b s ne) ∙ ap (λ (t : List ℕ). b ∷ t) h)
     (λ e b s w h. ap text (tokens_escape w s) ∙ ap (λ (t : List ℕ). 92 ∷ (e ++ t)) h)
     (λ rest e. ap text e ∙ append-nil (92 ∷ rest))
+
+-- a list means no more bytes than it has
+pub meant_fits : (s : List ℕ) → length (resolved s) ≤ length s
+meant_fits =
+    by_tokens (λ s. length (resolved s) ≤ length s) (omega arith)
+    (λ b s ne h. omega (arith, h, ap (λ (ts : List Token). length (bytes_meant ts)) (tokens_plain b s ne)))
+    (λ e b s w h. omega (arith, h, ap (λ (ts : List Token). length (bytes_meant ts)) (tokens_escape w s), length-append e s))
+    (λ rest e. omega (arith, ap (λ (ts : List Token). length (bytes_meant ts)) e))

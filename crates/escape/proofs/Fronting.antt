@@ -1,5 +1,5 @@
 -- Bytes laid into a buffer one after another, until nothing is left to lay.
-use Rattle.std.proofs.Common.{◌≡◌, ℕ, ◌+◌, ◌<◌, ◌≤◌, List, [], ◌∷◌, ◌++◌, length, take, drop, set, Some, None, ap, ◌∙◌, append_assoc, add-zero, arith, take-append-drop, le-leb}
+use Rattle.std.proofs.Common.{◌≡◌, ℕ, ◌+◌, ◌<◌, ◌≤◌, List, [], ◌∷◌, ◌++◌, length, take, drop, set, Some, None, sym, ap, ◌∙◌, append_assoc, add-zero, arith, take-append-drop, le-leb}
 use borrow.Author.Tests.{lt-leb}
 use Rattle.std.proofs.lemmas.List.{take_more_set, drop-set-lt}
 use Rattle.escape.specs.Resolving.{fitting, written}
@@ -15,6 +15,11 @@ laid_more out left n b h =
     ap (λ (x : List ℕ). x ++ (left ++ drop (n + 1 + length left) (set out n b))) (take_more_set out n b h)
     ∙ append_assoc (take n out) (b ∷ []) (left ++ drop (n + 1 + length left) (set out n b))
     ∙ ap (λ (x : List ℕ). take n out ++ (b ∷ (left ++ x))) rest
+
+-- the same for an iterator that counts what it gives
+pub laid_next : (out was later : List ℕ) (n i m b : ℕ) → was ≡ b ∷ later → i ≡ n → m ≡ n + 1 → n < length out → laid (set out i b) m later ≡ laid out n was
+laid_next out was later n i m b e at next h =
+    ap (λ (k : ℕ). laid (set out k b) m later) at ∙ ap (λ (k : ℕ). laid (set out n b) k later) next ∙ laid_more out later n b h ∙ ap (laid out n) (sym e)
 
 pub laid_all : (out : List ℕ) (n : ℕ) → laid out n [] ≡ out
 laid_all out n = rw (add-zero n) (take-append-drop n out)

@@ -101,17 +101,17 @@ passed_all c s rest ts e one w =
     ∙ sym (w.2 ∙ ap (λ (us : List Token). ahead w.0 (parts_of c us)) (sym e) ∙ ap (ahead w.0) one)
 
 -- what was passed stands before the rest
-passed_front : (c : ℕ) (s rest : List ℕ) (w : Passed c s rest) → take (length s - length rest - 0) s ≡ w.0
+passed_front : (c : ℕ) (s rest : List ℕ) (w : Passed c s rest) → take (length s - length rest) s ≡ w.0
 passed_front c s rest w =
-    let n : length s - length rest - 0 ≡ length w.0 = omega (arith, front_of w.0 rest s w.1) in
+    let n : length s - length rest ≡ length w.0 = omega (arith, front_of w.0 rest s w.1) in
     ap (λ (k : ℕ). take k s) n ∙ ap (take (length w.0)) w.1 ∙ take_at w.0 rest (length w.0) refl
 
-pub passed_here : (c b : ℕ) (s rest more : List ℕ) → plain b ∷ tokens more ≡ tokens rest → b ≡ c → Passed c s rest → take (length s - length rest - 0) s ∷ parts c more ≡ parts c s
+pub passed_here : (c b : ℕ) (s rest more : List ℕ) → plain b ∷ tokens more ≡ tokens rest → b ≡ c → Passed c s rest → take (length s - length rest) s ∷ parts c more ≡ parts c s
 passed_here c b s rest more e is w =
     ap (λ (x : List ℕ). x ∷ parts c more) (passed_front c s rest w ∙ sym (append-nil w.0))
     ∙ sym (w.2 ∙ ap (λ (ts : List Token). ahead w.0 (parts_of c ts)) (sym e) ∙ ap (ahead w.0) (parts_here c b (tokens more) is))
 
-pub passed_joins : (c b : ℕ) (s rest more : List ℕ) → plain b ∷ tokens more ≡ tokens rest → b ≡ c → Passed c s rest → s ≡ take (length s - length rest - 0) s ++ (c ∷ more)
+pub passed_joins : (c b : ℕ) (s rest more : List ℕ) → plain b ∷ tokens more ≡ tokens rest → b ≡ c → Passed c s rest → s ≡ take (length s - length rest) s ++ (c ∷ more)
 passed_joins c b s rest more e is w =
     w.1 ∙ ap (λ (x : List ℕ). w.0 ++ x) (front_text rest more (plain b) e ∙ ap (λ (x : ℕ). x ∷ more) is)
     ∙ ap (λ (x : List ℕ). x ++ (c ∷ more)) (sym (passed_front c s rest w))

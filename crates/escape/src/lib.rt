@@ -5,9 +5,6 @@ ghost use Rattle.std.specs.Prelude.{◌≡◌};
 ghost use Rattle.escape.specs.Tokens.{short, numbered, tokens, parts, first_broken};
 ghost use Rattle.escape.specs.Fronts.{opened, halved, Joins};
 
-// The largest byte that an escape can name by its number.
-const BYTE_MAX: u16 = 255;
-
 mod resolving;
 
 pub use resolving::{means, resolve, resolved_len};
@@ -47,7 +44,7 @@ fn by_number(x: u8, y: u8, z: u8) -> Option<u8>
     match (x, y, z) {
         (b'0'..=b'9', b'0'..=b'9', b'0'..=b'9') => {
             let n = (x - b'0') as u16 * 100 + (y - b'0') as u16 * 10 + (z - b'0') as u16;
-            if n <= BYTE_MAX { Some(n as u8) } else { None }
+            u8::try_from(n).ok()
         }
         _ => None,
     }
@@ -77,6 +74,7 @@ pub fn broken_at(s: &[u8]) -> Option<usize>
     ensures { result ≡ first_broken (tokens s.now) }
 {
     let mut rest = s;
+    // a loop over tokens of one to five bytes: an iterator of tokens would need a list of what follows each
     loop {
         match first_of(rest) {
             Front::Over => return None, // every backslash began an escape
@@ -99,7 +97,7 @@ pub fn cut(s: &[u8], at: u8) -> Option<(&[u8], &[u8])>
             Front::Broken => return None, // what follows counts as one part
             Front::Plain(b, more) => {
                 if b == at {
-                    return Some((&s[0..s.len() - rest.len()], more));
+                    return Some((&s[..s.len() - rest.len()], more));
                 }
                 rest = more;
             }

@@ -1,5 +1,6 @@
 // Resolving escapes: writing the bytes that a field means into a buffer.
 ghost use Rattle.std.specs.Prelude.{◌≡◌, length};
+ghost use Rattle.std.specs.Iterator.{YieldsFirst, item_count};
 ghost use Rattle.escape.specs.Tokens.{resolved};
 ghost use Rattle.escape.specs.Resolving.{fitting, written, meant_by, Shorter};
 ghost use Rattle.escape.specs.Texts.{same_bytes};
@@ -13,8 +14,27 @@ fn next_byte(s: &[u8]) -> Option<(u8, &[u8])>
 {
     match first_of(s) {
         Front::Over | Front::Broken => None,
+        // two arms: as one, the proof would have to name a step that the checker numbers by itself
         Front::Plain(b, rest) => Some((b, rest)),
         Front::Escape(b, rest) => Some((b, rest)),
+    }
+}
+
+// The bytes that a field means, from the first one on.
+#[derive(Clone, Copy)]
+struct Meaning<'a>(&'a [u8]);
+
+impl<'a> Iterator for Meaning<'a> {
+    type Item = u8;
+
+    ghost next_gives = { YieldsFirst (λ s. resolved s.0.now) };
+
+    ghost remaining = { item_count (λ s. resolved s.0.now) };
+
+    fn next(&mut self) -> Option<u8> {
+        let (b, rest) = next_byte(self.0)?;
+        self.0 = rest;
+        Some(b)
     }
 }
 
@@ -22,13 +42,7 @@ fn next_byte(s: &[u8]) -> Option<(u8, &[u8])>
 pub fn resolved_len(field: &[u8]) -> usize
     ensures { result ≡ length (resolved field.now) }
 {
-    let mut rest = field;
-    let mut n: usize = 0;
-    while let Some((_, more)) = next_byte(rest) {
-        n += 1;
-        rest = more;
-    }
-    n
+    Meaning(field).count()
 }
 
 // Writes what a field means to the front of `out` and answers how long it is; or writes nothing, for want of room.
@@ -36,32 +50,25 @@ pub fn resolve(field: &[u8], out: &mut [u8]) -> Option<usize>
     ensures answer { result ≡ fitting (resolved field.now) (length out.old) }
     ensures after { out.new ≡ written (resolved field.now) out.old }
 {
-    if resolved_len(field) > out.len() {
+    let len = resolved_len(field);
+    if len > out.len() {
         return None;
     }
-    let mut rest = field;
-    let mut n: usize = 0;
-    while let Some((b, more)) = next_byte(rest) {
-        out[n] = b;
-        n += 1;
-        rest = more;
+    for (i, b) in Meaning(field).enumerate() {
+        out[i] = b;
     }
-    Some(n)
+    Some(len)
 }
 
 // Whether a field, with its escapes resolved, is the text.
 pub fn means(field: &[u8], text: &[u8]) -> bool
     ensures { result ≡ same_bytes (resolved field.now) text.now }
 {
-    let mut rest = field;
+    let mut meant = Meaning(field);
     for b in text {
-        let Some((meant, more)) = next_byte(rest) else {
-            return false;
-        };
-        if meant != *b {
+        if meant.next() != Some(*b) {
             return false;
         }
-        rest = more;
     }
-    next_byte(rest).is_none()
+    meant.next().is_none()
 }

@@ -1,10 +1,12 @@
 -- The fields of a body, colon by colon, and the form of a name.
-use Rattle.std.proofs.Common.{◌≡◌, ℕ, ◌-◌, ◌<◌, ◌≤◌, true, false, cond, leb, List, [], ◌∷◌, ◌++◌, length, get_or, take, drop, is_some, Some, None, Option, sym, refl, ap, ◌∙◌, arith, length-append, le-leb}
+use Rattle.std.proofs.Common.{◌≡◌, ℕ, ◌-◌, ◌<◌, ◌≤◌, Bool, false, cond, leb, List, [], ◌∷◌, ◌++◌, length, get_or, take, drop, is_some, Some, None, Option, sym, refl, ap, ◌∙◌, arith, length-append, le-leb}
+use Rattle.std.specs.Borrow.{Bor}
+use Rattle.std.specs.Bool.{then_some}
 use Rattle.escape.specs.Tokens.{tokens, ahead, parts}
 use Rattle.escape.proofs.Walking.{ahead_none}
 use Rattle.line.specs.Forms.{name_byte, every, is_name}
 use Rattle.line.specs.Lines.{one_more, all_ended, first_and_later, fields_of}
-use Rattle.line.specs.Reads.{first_of}
+use Rattle.line.specs.Reads.{behind, first_of}
 use Rattle.line.proofs.Loops.{rest_of}
 
 pub by_letter : (s : List ℕ) → 1 ≤ length s → 65 ≤ get_or s 0 0 → get_or s 0 0 ≤ 90
@@ -31,16 +33,10 @@ pub field_ended : (s f after : List ℕ) → f ∷ parts 58 after ≡ parts 58 s
 field_ended s f after e = ap (λ (o : Option (List (List ℕ))). is_some o) (ended_by s f after e) ∙ some_more f (all_ended (parts 58 after))
 
 -- the first field of a body
-first_more : (f : List ℕ) (o : Option (List (List ℕ))) → is_some o ≡ true → Some f ≡ first_of (first_and_later (one_more f o))
-first_more f None t = let z : ◌≡◌ {A = ℕ} 0 1 = cc in absurd (omega arith)
-first_more f (Some fs) t = refl
+first_behind : (f : Bor (List ℕ)) (o : Option (List (List ℕ))) (t : Bool) → t ≡ is_some o → behind (then_some t f) ≡ first_of (first_and_later (one_more f.now o))
+first_behind f None t e = rw e refl
+first_behind f (Some fs) t e = rw e refl
 
-first_none : (f : List ℕ) (o : Option (List (List ℕ))) → is_some o ≡ false → None ≡ first_of (first_and_later (one_more f o))
-first_none f None t = refl
-first_none f (Some fs) t = let z : ◌≡◌ {A = ℕ} 0 1 = cc in absurd (omega arith)
-
-pub first_ended : (s f after : List ℕ) → f ∷ parts 58 after ≡ parts 58 s → is_some (all_ended (parts 58 after)) ≡ true → Some f ≡ first_of (fields_of s)
-first_ended s f after e t = first_more f (all_ended (parts 58 after)) t ∙ ap (λ (o : Option (List (List ℕ))). first_of (first_and_later o)) (sym (ended_by s f after e))
-
-pub first_open : (s f after : List ℕ) → f ∷ parts 58 after ≡ parts 58 s → is_some (all_ended (parts 58 after)) ≡ false → None ≡ first_of (fields_of s)
-first_open s f after e t = first_none f (all_ended (parts 58 after)) t ∙ ap (λ (o : Option (List (List ℕ))). first_of (first_and_later o)) (sym (ended_by s f after e))
+pub first_if_ended : (s : List ℕ) (f : Bor (List ℕ)) (after : List ℕ) (t : Bool) (r : Option (Bor (List ℕ))) → f.now ∷ parts 58 after ≡ parts 58 s → t ≡ is_some (all_ended (parts 58 after)) → r ≡ then_some t f
+    → behind r ≡ first_of (fields_of s)
+first_if_ended s f after t r e is gave = ap behind gave ∙ first_behind f (all_ended (parts 58 after)) t is ∙ ap (λ (o : Option (List (List ℕ))). first_of (first_and_later o)) (sym (ended_by s f.now after e))

@@ -1,11 +1,15 @@
 -- A line and its parts, slash by slash.
-use Rattle.std.proofs.Common.{◌≡◌, ℕ, ◌+◌, ◌-◌, ◌≤◌, List, [], ◌∷◌, ◌++◌, length, take, Some, None, refl, ap, ◌∙◌, arith, length-append}
+use Rattle.std.proofs.Common.{is_some, not, Bool, true, false, Option, sym, subst, ◌≡◌, ℕ, ◌+◌, ◌-◌, ◌≤◌, List, [], ◌∷◌, ◌++◌, length, take, Some, None, refl, ap, ◌∙◌, arith, length-append}
 use Rattle.std.proofs.lemmas.List.{length-take-le}
+use Rattle.std.specs.Borrow.{Bor}
+use Rattle.std.specs.Bool.{then_some}
+use Rattle.escape.specs.Fronts.{halved}
 use Rattle.escape.specs.Tokens.{tokens, ahead, parts}
 use Rattle.escape.proofs.Walking.{ahead_none}
 use Rattle.line.specs.Forms.{Side, command}
 use Rattle.line.specs.Lines.{parted}
-use Rattle.line.specs.Cuts.{Sums}
+use Rattle.line.specs.Cuts.{Sums, Cut}
+use Rattle.line.specs.declared.reading.Parts.{Parts}
 
 -- four slashes or more
 too_many : (side : Side) (a m b d : List ℕ) (ps : List (List ℕ)) → ps ≡ ahead [] ps → None ≡ parted side (a ∷ m ∷ b ∷ d ∷ ps)
@@ -47,3 +51,20 @@ module _ (line a r m s : List ℕ)
     check_sums =
         let n : length line - length c - 0 ≡ length a + 1 + length m + 1 + length b + 1 = omega (arith, check_sizes) in
         (ap (λ (k : ℕ). take k line) n, length-take-le (length line - length c - 0) line (omega arith) ∙ n)
+
+-- by what a fourth cut finds
+pub with_fourth : (line r s : List ℕ) (a m b c summed : Bor (List ℕ)) (side : Side) (o : Option (Bor (List ℕ) × Bor (List ℕ))) (t : Bool) (cut : Option Parts)
+    → a.now ∷ parts 47 r ≡ parts 47 line → m.now ∷ parts 47 s ≡ parts 47 r → line ≡ a.now ++ (47 ∷ r) → r ≡ m.now ++ (47 ∷ s)
+    → b.now ∷ parts 47 c.now ≡ parts 47 s → s ≡ b.now ++ (47 ∷ c.now)
+    → halved 47 c.now o ≡ parts 47 c.now → is_some o ≡ not t → cut ≡ then_some t (record { address = a; mark = m; body = b; check = Some c; summed = summed })
+    → summed.now ≡ take (length line - length c.now - 0) line → Cut side line cut
+with_fourth line r s a m b c summed side None true cut first second one two third three e is gave sums =
+    subst (Cut side line) (sym gave) (
+      with_check line a.now r m.now s first second one two b.now c.now third three side e,
+      subst (λ (x : List ℕ). Sums line (length a.now + 1 + length m.now + 1 + length b.now + 1) x (Some c.now)) (sym sums) (check_sums line a.now r m.now s first second one two b.now c.now third three),
+      body_within line a.now r m.now s first second one two,
+    )
+with_fourth line r s a m b c summed side None false cut first second one two third three e is gave sums = cc
+with_fourth line r s a m b c summed side (Some halves) true cut first second one two third three e is gave sums = cc
+with_fourth line r s a m b c summed side (Some halves) false cut first second one two third three e is gave sums =
+    subst (Cut side line) (sym gave) (with_more line a.now r m.now s first second one two b.now c.now third three side halves.0.now halves.1.now e)

@@ -1,11 +1,23 @@
 -- The device of an address, as the arms of a slice pattern see it, and how many bytes name it.
-use Rattle.std.proofs.Common.{◌≡◌, ℕ, ◌+◌, ◌-◌, ◌≤◌, Bool, true, false, cond, eqb, leb, List, [], ◌∷◌, length, get_or, take, drop, Some, None, Option, sym, refl, subst, arith, eq-eqb, leb-true}
+use Rattle.std.proofs.Common.{ap, ◌∙◌, le-leb, ◌≡◌, ℕ, ◌+◌, ◌-◌, ◌≤◌, Bool, true, false, cond, eqb, leb, List, [], ◌∷◌, length, get_or, take, drop, Some, None, Option, sym, refl, subst, arith, eq-eqb, leb-true}
+use Rattle.std.specs.Bool.{then_some}
+use Rattle.std.specs.List.{list_all}
 use Rattle.line.specs.Forms.{hex_digit, every, serial_length, pair_length, device_length, if_some, unless_zero, digit_pair}
-use Rattle.line.proofs.Loops.{rest_of}
+use Rattle.line.proofs.Loops.{rest_of, every_list}
 
 pub by_serial : (s : List ℕ) → 1 ≤ length s → get_or s 0 0 ≡ 35 → serial_length (take (length s - 1) (drop 1 s)) ≡ device_length s
 by_serial [] h e = absurd (omega arith)
 by_serial (x ∷ s) h e = rw (rest_of 1 (x ∷ s) h, eq-eqb x 35 e)
+
+-- the twelve digits, by the test of each of them
+hex_then : (t : Bool) (n : ℕ) → then_some t n ≡ cond t (Some n) None
+hex_then true n = refl
+hex_then false n = refl
+
+pub serial_by : (s : List ℕ) (t : Bool) (r : Option ℕ) → 12 ≤ length s → t ≡ list_all hex_digit (take (12 - 0) s) → r ≡ then_some {T = ℕ} t 13 → r ≡ serial_length s
+serial_by s t r h e gave =
+    let same : t ≡ every hex_digit (take 12 s) = e ∙ sym (every_list hex_digit (take 12 s)) in
+    rw (le-leb 12 (length s) h) (gave ∙ hex_then t 13 ∙ ap (λ (b : Bool). cond b (Some 13) None) same)
 
 abbrev Fits : Option ℕ → ℕ → Type 0
 Fits None m = Unit {0}

@@ -1,10 +1,11 @@
 // The address of a line: a device, and a music zone if one is named.
 ghost use Rattle.std.specs.Prelude.{◌≡◌};
+ghost use Rattle.std.specs.List.{list_all};
 ghost use Rattle.std.specs.Option.{option_map};
-ghost use Rattle.line.specs.Forms.{hex_digit, every, digit_pair, unless_zero, serial_length, device_length, zone_of, split_device, address_of};
+ghost use Rattle.line.specs.Forms.{hex_digit, digit_pair, unless_zero, serial_length, device_length, zone_of, split_device, address_of};
 ghost use Rattle.line.specs.Meanings.{side_of, placed};
 
-use crate::check::digits_value;
+use crate::check::pair_value;
 use crate::message::{Address, Side};
 
 fn is_hex(b: u8) -> bool
@@ -14,25 +15,16 @@ fn is_hex(b: u8) -> bool
 }
 
 fn all_hex(s: &[u8]) -> bool
-    ensures { result ≡ every hex_digit s.now }
+    ensures { result ≡ list_all hex_digit s.now }
 {
-    for b in s {
-        if !is_hex(*b) {
-            return false;
-        }
-    }
-    true
+    s.iter().all(|b| is_hex(*b))
 }
 
 // Two digits from 01 to 99, by their value.
 fn from_one(a: u8, b: u8) -> Option<u8>
     ensures { result ≡ unless_zero (digit_pair a b) }
 {
-    match (a, b) {
-        (b'0', b'0') => None,
-        (b'0'..=b'9', b'0'..=b'9') => Some((a - b'0') * 10 + (b - b'0')),
-        _ => None,
-    }
+    pair_value(a, b).filter(|n| *n > 0)
 }
 
 // How many bytes name a device by its serial number, of which `digits` follow the `#`.
@@ -42,11 +34,7 @@ fn serial_len(digits: &[u8]) -> Option<usize>
     if digits.len() < 12 {
         return None;
     }
-    if all_hex(&digits[0..12]) {
-        Some(13)
-    } else {
-        None
-    }
+    all_hex(&digits[..12]).then_some(13)
 }
 
 // How many bytes at the front name a device.
@@ -55,10 +43,7 @@ fn device_len(s: &[u8]) -> Option<usize>
 {
     match s {
         [b'#', digits @ ..] => serial_len(digits),
-        [a, b, ..] => match from_one(*a, *b) {
-            Some(_) => Some(2),
-            None => None,
-        },
+        [a, b, ..] => from_one(*a, *b).map(|_| 2),
         _ => None,
     }
 }
@@ -69,10 +54,7 @@ fn zone_in(s: &[u8]) -> Option<Option<u8>>
 {
     match s {
         [] => Some(None),
-        [b'.', digits @ ..] => match digits_value(digits) {
-            Some(n) if n > 0 => Some(Some(n)),
-            _ => None,
-        },
+        [b'.', a, b] => from_one(*a, *b).map(Some),
         _ => None,
     }
 }

@@ -1,7 +1,7 @@
 // The body of a line: fields, each ended by a colon outside an escape, of which the first has a form of its own.
 ghost use Rattle.std.specs.Prelude.{◌≡◌, is_some};
-ghost use Rattle.line.specs.Forms.{capital, name_byte, every, is_status, is_name, is_first_field};
-ghost use Rattle.std.specs.Option.{option_map};
+ghost use Rattle.line.specs.Forms.{name_byte, is_status, is_name, is_first_field};
+ghost use Rattle.std.specs.List.{list_all};
 ghost use Rattle.escape.specs.Tokens.{parts};
 ghost use Rattle.line.specs.Lines.{all_ended, fields_of};
 ghost use Rattle.line.specs.Meanings.{side_of};
@@ -17,14 +17,9 @@ fn is_name_byte(b: u8) -> bool
 }
 
 fn all_name_bytes(s: &[u8]) -> bool
-    ensures { result ≡ every name_byte s.now }
+    ensures { result ≡ list_all name_byte s.now }
 {
-    for b in s {
-        if !is_name_byte(*b) {
-            return false;
-        }
-    }
-    true
+    s.iter().all(|b| is_name_byte(*b))
 }
 
 // A status is three digits.
@@ -39,7 +34,7 @@ fn is_name(field: &[u8]) -> bool
     ensures { result ≡ is_name field.now }
 {
     match field {
-        [b'A'..=b'Z', later @ ..] => all_name_bytes(later) && later.len() <= 63,
+        [b'A'..=b'Z', later @ ..] => later.len() <= 63 && all_name_bytes(later),
         _ => false,
     }
 }
@@ -72,5 +67,5 @@ pub(crate) fn first_field(body: &[u8]) -> Option<&[u8]>
     ensures { behind result ≡ first_of (fields_of body.now) }
 {
     let (first, later) = cut(body, b':')?;
-    if all_ended(later) { Some(first) } else { None }
+    all_ended(later).then_some(first)
 }

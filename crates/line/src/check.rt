@@ -1,16 +1,26 @@
 // The check of a line: two digits, the sum of the bytes before it modulo 100.
 ghost use Rattle.std.specs.Prelude.{◌≡◌};
-ghost use Rattle.line.specs.Forms.{two_digits, check_of};
+ghost use Rattle.line.specs.Forms.{digit_pair, two_digits, check_of};
 ghost use Rattle.line.specs.Reads.{Checks};
 
 use crate::fault::Fault;
+
+// Two digits, by their value.
+pub(crate) fn pair_value(a: u8, b: u8) -> Option<u8>
+    ensures { result ≡ digit_pair a b }
+{
+    match (a, b) {
+        (b'0'..=b'9', b'0'..=b'9') => Some((a - b'0') * 10 + (b - b'0')),
+        _ => None,
+    }
+}
 
 // Two digits and nothing else, by their value.
 pub(crate) fn digits_value(s: &[u8]) -> Option<u8>
     ensures { result ≡ two_digits s.now }
 {
     match s {
-        [a @ b'0'..=b'9', b @ b'0'..=b'9'] => Some((*a - b'0') * 10 + (*b - b'0')),
+        [a, b] => pair_value(*a, *b),
         _ => None,
     }
 }
@@ -33,9 +43,7 @@ pub(crate) fn checked(summed: &[u8], check: Option<&[u8]>) -> Result<Option<u8>,
     let Some(digits) = check else {
         return Ok(None);
     };
-    let Some(said) = digits_value(digits) else {
-        return Err(Fault::CheckForm(summed.len()));
-    };
+    let said = digits_value(digits).ok_or(Fault::CheckForm(summed.len()))?;
     if said != check_sum(summed) {
         return Err(Fault::CheckSum(summed.len()));
     }

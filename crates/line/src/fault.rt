@@ -113,12 +113,16 @@ impl Fault {
     pub fn layer(&self) -> Option<Layer>
         ensures { result ≡ layer_of (number_of self.now) }
     {
-        match self.number() {
-            1..=3 => Some(Layer::Line),
-            4..=8 => Some(Layer::Parts),
-            9..=10 => Some(Layer::Body),
-            15..=16 => Some(Layer::Record),
-            _ => None,
+        match self {
+            Fault::TooLong | Fault::Invisible(_) | Fault::BadEscape(_) => Some(Layer::Line),
+            Fault::Slashes(_)
+            | Fault::BadAddress
+            | Fault::BadMark(_)
+            | Fault::CheckForm(_)
+            | Fault::CheckSum(_) => Some(Layer::Parts),
+            Fault::BodyEnd(_) | Fault::FirstField(_) => Some(Layer::Body),
+            Fault::NoField(_) | Fault::RecordForm(_) => Some(Layer::Record),
+            Fault::PumpBuffer | Fault::NoNumber | Fault::NoRoom | Fault::ShortBuffer => None,
         }
     }
 }

@@ -18,14 +18,10 @@ fn part_at(body: &[u8], index: usize) -> Option<&[u8]>
     ensures { behind result ≡ slice_get (before_last (parts 58 body.now)) index }
 {
     let mut rest = body;
-    let mut left = index;
-    while left > 0 {
-        let (_, after) = cut(rest, b':')?;
-        rest = after;
-        left -= 1;
+    for _passed in 0..index {
+        rest = cut(rest, b':')?.1;
     }
-    let (part, _after) = cut(rest, b':')?;
-    Some(part)
+    Some(cut(rest, b':')?.0)
 }
 
 // Copies bytes to the front of `out` and answers how many; or copies nothing, for want of room.
@@ -33,12 +29,11 @@ fn copy_to_front(bytes: &[u8], out: &mut [u8]) -> Option<usize>
     ensures answer { result ≡ fitting bytes.now (length out.old) }
     ensures after { out.new ≡ written bytes.now out.old }
 {
-    let len = bytes.len();
-    if len > out.len() {
+    if bytes.len() > out.len() {
         return None;
     }
-    out[0..len].copy_from_slice(bytes);
-    Some(len)
+    out[..bytes.len()].copy_from_slice(bytes);
+    Some(bytes.len())
 }
 
 impl<'a> Message<'a> {
@@ -67,9 +62,7 @@ impl<'a> Message<'a> {
         ensures answer { result ≡ field_answer index (length out.old) (slice_get (message_of self.now).fields index) }
         ensures after { out.new ≡ field_written out.old (slice_get (message_of self.now).fields index) }
     {
-        let Some(raw) = self.raw_field(index) else {
-            return Err(Fault::NoField(index));
-        };
+        let raw = self.raw_field(index).ok_or(Fault::NoField(index))?;
         // a status or name has no escapes
         let written = if index == 0 {
             copy_to_front(raw, out)

@@ -9,14 +9,7 @@ use crate::message::Side;
 pub fn is_mark(side: Side, mark: char) -> bool
     ensures { result ≡ is_mark (side_of side) mark }
 {
-    match mark {
-        '0'..='9' => true,
-        '!' | '?' => match side {
-            Side::Command => false,
-            Side::Answer => true,
-        },
-        _ => false,
-    }
+    matches!((side, mark), (_, '0'..='9') | (Side::Answer, '!' | '?'))
 }
 
 // The mark that a line's mark part is, if it is one.
@@ -26,10 +19,5 @@ pub(crate) fn mark_in(side: Side, part: &[u8]) -> Option<char>
     let [b] = part else {
         return None;
     };
-    let mark = *b as char;
-    if is_mark(side, mark) {
-        Some(mark)
-    } else {
-        None
-    }
+    Some(*b as char).filter(|mark| is_mark(side, *mark))
 }

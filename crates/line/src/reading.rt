@@ -1,7 +1,7 @@
 // Reading a line, fault by fault in the order of their numbers.
-ghost use Rattle.std.specs.Prelude.{◌≡◌, ◌+◌, ◌≤◌, length};
+ghost use Rattle.std.specs.Prelude.{◌≡◌, ◌+◌, ◌≤◌, length, not, position};
 ghost use Rattle.line.specs.Forms.{visible};
-ghost use Rattle.line.specs.Lines.{first_invisible, parts_read, reading};
+ghost use Rattle.line.specs.Lines.{parts_read, reading};
 ghost use Rattle.line.specs.Meanings.{side_of, placed, message_of, read_of, check_said};
 ghost use Rattle.line.specs.Reads.{said, if_command};
 ghost use Rattle.line.specs.Cuts.{Cut, Fits, parts_meant, KeepsCheck, KeepsStated};
@@ -35,14 +35,9 @@ fn is_visible(b: u8) -> bool
 
 // Where the first byte stands that may not stand in a line.
 fn invisible_at(line: &[u8]) -> Option<usize>
-    ensures { result ≡ first_invisible line.now }
+    ensures { result ≡ position (λ b. not (visible b)) line.now }
 {
-    for (i, b) in line.iter().enumerate() {
-        if !is_visible(*b) {
-            return Some(i);
-        }
-    }
-    None
+    line.iter().position(|b| !is_visible(*b))
 }
 
 // Cuts a line at its slashes outside escapes.
@@ -51,8 +46,8 @@ fn parts_of(side: Side, line: &[u8]) -> Option<Parts<'_>>
 {
     let (address, rest) = cut(line, b'/')?;
     let (mark, rest) = cut(rest, b'/')?;
-    match cut(rest, b'/') {
-        None => match side {
+    let Some((body, check)) = cut(rest, b'/') else {
+        return match side {
             Side::Command => Some(Parts {
                 address,
                 mark,
@@ -60,19 +55,18 @@ fn parts_of(side: Side, line: &[u8]) -> Option<Parts<'_>>
                 check: None,
                 summed: line,
             }),
+            // an answer has a check
             Side::Answer => None,
-        },
-        Some((body, check)) => match cut(check, b'/') {
-            None => Some(Parts {
-                address,
-                mark,
-                body,
-                check: Some(check),
-                summed: &line[0..line.len() - check.len()],
-            }),
-            Some(_) => None,
-        },
-    }
+        };
+    };
+    // no fourth slash stands outside an escape
+    cut(check, b'/').is_none().then_some(Parts {
+        address,
+        mark,
+        body,
+        check: Some(check),
+        summed: &line[..line.len() - check.len()],
+    })
 }
 
 // The message of a line that has its form, from its parts.
@@ -86,20 +80,18 @@ fn message<'a>(
     ensures meaning { message_of result ≡ said (side_of side) (placed address.entry) mark body.now }
     ensures check { check_said result ≡ if_command (side_of side) check }
 {
-    match side {
-        Side::Command => Message::Command {
+    match (side, mark) {
+        (Side::Command, _) => Message::Command {
             address,
             mark,
             body,
             check,
         },
-        Side::Answer => match mark {
-            '!' => Message::Event { address, body },
-            _ => Message::Answer {
-                address,
-                mark,
-                body,
-            },
+        (Side::Answer, '!') => Message::Event { address, body },
+        (Side::Answer, _) => Message::Answer {
+            address,
+            mark,
+            body,
         },
     }
 }
@@ -110,18 +102,12 @@ fn judge<'a>(side: Side, parts: Parts<'a>) -> Result<Message<'a>, Fault>
     ensures read { read_of result ≡ parts_read (side_of side) (parts_meant parts.entry) parts.entry.summed.now }
     ensures check { KeepsCheck (side_of side) (parts_meant parts.entry) result }
 {
-    let Some(address) = address_in(side, parts.address) else {
-        return Err(Fault::BadAddress);
-    };
+    let address = address_in(side, parts.address).ok_or(Fault::BadAddress)?;
     let mark_at = parts.address.len() + 1;
-    let Some(mark) = mark_in(side, parts.mark) else {
-        return Err(Fault::BadMark(mark_at));
-    };
+    let mark = mark_in(side, parts.mark).ok_or(Fault::BadMark(mark_at))?;
     let check = checked(parts.summed, parts.check)?;
     let body_at = mark_at + parts.mark.len() + 1;
-    let Some(first) = first_field(parts.body) else {
-        return Err(Fault::BodyEnd(body_at));
-    };
+    let first = first_field(parts.body).ok_or(Fault::BodyEnd(body_at))?;
     if !is_first_field(side, first) {
         return Err(Fault::FirstField(body_at));
     }
@@ -142,8 +128,6 @@ pub fn read(side: Side, line: &[u8]) -> Result<Message<'_>, Fault>
     if let Some(place) = broken_at(line) {
         return Err(Fault::BadEscape(place));
     }
-    let Some(parts) = parts_of(side, line) else {
-        return Err(Fault::Slashes(line.len()));
-    };
+    let parts = parts_of(side, line).ok_or(Fault::Slashes(line.len()))?;
     judge(side, parts)
 }

@@ -1,6 +1,6 @@
 use Rattle.std.proofs.Common.{refl, arith}
 use Rattle.escape.specs.Tokens.{tokens}
-use Rattle.escape.proofs.Walking.{shorter, parts_other, passed_start, passed_more, passed_all, passed_here, passed_joins, within}
+use Rattle.escape.proofs.Walking.{shorter, parts_other, passed_start, passed_more, passed_all, passed_here, passed_joins}
 use Rattle.escape.proofs.cut.Goals as goal
 
 pub loop-b-init : goal.loop-b-init
@@ -8,9 +8,6 @@ loop-b-init c = passed_start c.args.at c.args.s.now
 
 pub returns-in-Over : goal.returns-in-Over
 returns-in-Over c = record { parts = passed_all c.args.at c.args.s.now c.loop-b.rest.now _ c.in-Over.ensures refl c.loop-b.invariant; joins = tt }
-
-pub overflow_sub-result : goal.overflow_sub-result
-overflow_sub-result c = within c.args.at c.args.s.now c.loop-b.rest.now c.loop-b.invariant
 
 pub returns-then-b-at : goal.returns-then-b-at
 returns-then-b-at c = record {

@@ -5,4 +5,4 @@ use Rattle.escape.proofs.resolving.means.Given as goal
 
 -- what is left of the field is compared with what is left of the text
 abbrev pub invariant-loop-b : goal.invariant-loop-b
-invariant-loop-b l = same_bytes (resolved l.field) l.text ≡ same_bytes (resolved l.rest) (drop l.b-index l.text)
+invariant-loop-b l = same_bytes (resolved l.field) l.text ≡ same_bytes (resolved l.meant.0.now) (drop l.b-index l.text)

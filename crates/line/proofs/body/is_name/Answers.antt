@@ -1,9 +1,11 @@
-use Rattle.std.proofs.Common.{rules}
+use Rattle.std.proofs.Common.{◌-◌, length, take, drop, rules}
+use Rattle.line.specs.Forms.{name_byte}
 use Rattle.line.proofs.Bodies.{by_letter}
+use Rattle.line.proofs.Loops.{every_list}
 use Rattle.line.proofs.body.is_name.Goals as goal
 
-pub returns-then-all_name_bytes : goal.returns-then-all_name_bytes
-returns-then-all_name_bytes c = let e = by_letter c.args.field.now (search rules) (search rules) (search rules) in search rules
-
-pub returns-else-all_name_bytes : goal.returns-else-all_name_bytes
-returns-else-all_name_bytes c = let e = by_letter c.args.field.now (search rules) (search rules) (search rules) in search rules
+pub returns-then-later-le63 : goal.returns-then-later-le63
+returns-then-later-le63 c =
+    let e = by_letter c.args.field.now (search rules) (search rules) (search rules) in
+    let a = every_list name_byte (take (length c.args.field.now - 1) (drop 1 c.args.field.now)) in
+    search rules
