@@ -42,9 +42,6 @@ no_longer_than_all refs i =
     let halves : behind_all refs ≡ behind_all (take i refs) ++ behind_all (drop i refs) = ap behind_all (sym (take-append-drop i refs)) ∙ map-append (λ (r : Bor (List ℕ)). r.now) (take i refs) (drop i refs) in
     omega (arith, ap length (ap body_text halves ∙ body_append (behind_all (take i refs)) (behind_all (drop i refs))), length-append (body_text (behind_all (take i refs))) (body_text (behind_all (drop i refs))))
 
-pub all_taken : (refs : List (Bor (List ℕ))) (i : ℕ) → length refs ≤ i → behind_all (take i refs) ≡ behind_all refs
-all_taken refs i h = ap behind_all (take_all i refs h)
-
 bytes_append : (fs gs : List (List ℕ)) → Bytes fs → Bytes gs → Bytes (fs ++ gs)
 bytes_append [] gs h k = k
 bytes_append (f ∷ fs) gs h k = (h.0, bytes_append fs gs h.1 k)

@@ -39,9 +39,6 @@ lies_checked was l out new ys at n s two len e o done =
     subst (λ (x : List ℕ). Lies was x new n) text done
 
 -- ---- bytes pushed one after another
-pub pushed_none : (w : Writer) → Pushed w w []
-pushed_none w = record { len = omega arith; room = refl; lies = λ was l o. subst (λ (x : List ℕ). Lies was x w.out.now w.len) (sym (append-nil l)) o; lender = refl }
-
 pub pushed_both : (a b c : Writer) (s t : List ℕ) → Pushed a b s → Pushed b c t → Pushed a c (s ++ t)
 pushed_both a b c s t p q = record {
   len = omega (arith, length-append s t);
@@ -72,6 +69,3 @@ within bs i = omega (arith, ap length (ap spelling (sym (take-append-drop i bs))
 
 pub longer : (bs : List ℕ) (i : ℕ) → i < length bs → length (spelling (take (i + 1) bs)) ≡ length (spelling (take i bs)) + length (spelled (get_or bs i 0))
 longer bs i h = ap length (spelling_more bs i h) ∙ length-append (spelling (take i bs)) (spelled (get_or bs i 0))
-
-pub spelling_all : (bs : List ℕ) (i : ℕ) → length bs ≤ i → spelling (take i bs) ≡ spelling bs
-spelling_all bs i h = ap spelling (take_all i bs h)
