@@ -44,7 +44,7 @@ fn by_number(x: u8, y: u8, z: u8) -> Option<u8>
 {
     match (x, y, z) {
         (b'0'..=b'9', b'0'..=b'9', b'0'..=b'9') => {
-            let n = (x - b'0') as u16 * 100 + (y - b'0') as u16 * 10 + (z - b'0') as u16;
+            let n = u16::from(x - b'0') * 100 + u16::from(y - b'0') * 10 + u16::from(z - b'0');
             u8::try_from(n).ok()
         }
         _ => None,
@@ -92,6 +92,7 @@ pub fn cut(s: &[u8], at: u8) -> Option<(&[u8], &[u8])>
     ensures joins { Joins at s.now result }
 {
     let mut rest = s;
+    // a loop of its own, as above: it stops at a byte, and needs what stands before and after it
     loop {
         match first_of(rest) {
             Front::Over => return None,

@@ -31,7 +31,7 @@ pub fn check_sum(bytes: &[u8]) -> u8
 {
     let mut sum: u32 = 0;
     for b in bytes {
-        sum = (sum + *b as u32) % 100;
+        sum = (sum + u32::from(*b)) % 100;
     }
     sum as u8
 }

@@ -66,6 +66,7 @@ pub enum Fault {
 }
 
 impl Fault {
+    // The number by which the fault is told outside the code: in rows, and in what is promised.
     pub fn number(&self) -> u8
         ensures { result ≡ number_of self.now }
     {

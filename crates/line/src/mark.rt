@@ -19,5 +19,5 @@ pub(crate) fn mark_in(side: Side, part: &[u8]) -> Option<char>
     let [b] = part else {
         return None;
     };
-    Some(*b as char).filter(|mark| is_mark(side, *mark))
+    Some(char::from(*b)).filter(|mark| is_mark(side, *mark))
 }

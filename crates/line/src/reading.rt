@@ -122,6 +122,7 @@ pub fn read(side: Side, line: &[u8]) -> Result<Message<'_>, Fault>
     if line.len() > LINE_MAX {
         return Err(Fault::TooLong);
     }
+    // a place that is found is the fault itself, where `?` would go on with it
     if let Some(place) = invisible_at(line) {
         return Err(Fault::Invisible(place));
     }
