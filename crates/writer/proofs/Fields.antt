@@ -1,6 +1,6 @@
 -- Several fields behind references, written one after the other.
 use Rattle.std.proofs.Common.{◌≡◌, ℕ, ◌+◌, ◌<◌, ◌≤◌, true, List, [], ◌∷◌, ◌++◌, length, get_or, take, drop, Some, None, Result, false, cond, eqb, append-nil, sym, refl, ap, ◌∙◌, subst, append_assoc, arith, length-append, take-append-drop, Bor}
-use Rattle.std.proofs.lemmas.List.{map_more, map-append, take_all}
+use Rattle.std.proofs.lemmas.List.{map_more, map-append}
 use Rattle.std.proofs.lemmas.Bool.{ne_eqb}
 use Rattle.std.specs.List.{AllByRecursion}
 use Rattle.escape.specs.Spelling.{spelling}

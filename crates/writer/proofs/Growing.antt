@@ -1,7 +1,7 @@
 -- A line that grows at the front of a buffer, and how much of it a field is.
 use Rattle.std.proofs.Common.{◌≡◌, ℕ, ◌+◌, ◌<◌, ◌≤◌, List, [], ◌∷◌, ◌++◌, length, get_or, take, drop, sym, refl, ap, ◌∙◌, subst, append_assoc, append-nil, arith, length-append, length-drop, take-append-drop, drop-drop, take_at, drop_at}
 use borrow.Rule.Slice.PartMut.{put_mid}
-use Rattle.std.proofs.lemmas.List.{take_more, take_all}
+use Rattle.std.proofs.lemmas.List.{take_more}
 use Rattle.escape.specs.Spelling.{spelled, spelling}
 use Rattle.line.specs.Forms.{check_of}
 use Rattle.writer.specs.Canonical.{in_two_digits, closed}
