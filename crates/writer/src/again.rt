@@ -19,6 +19,7 @@ fn body_len(body: &[u8]) -> Result<usize, Fault>
 {
     let mut rest = body;
     let mut n = 0;
+    // a loop, and not a sum over an iterator: it stops as soon as the line is too long
     loop {
         let (len, more) = match first_of(rest) {
             Front::Over | Front::Broken => return Ok(n),

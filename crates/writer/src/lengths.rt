@@ -25,6 +25,7 @@ pub(crate) fn field_len(field: &[u8]) -> Result<usize, Fault>
     ensures { Measured (length (spelling field.now)) result }
 {
     let mut n = 0;
+    // not `sum`, which has to be shown not to overflow: a field may be of any length
     for b in field {
         n = sum_within(n, spelled_len(*b))?;
     }
