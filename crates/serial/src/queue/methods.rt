@@ -17,6 +17,7 @@ fn wrap(n: usize) -> usize
 }
 
 // All of `src` behind the `len` bytes from `head` on: one copy up to the ring's end, and one for the rest at its start.
+// It takes the fields one by one, since a clause on a `Queue` sees only the bytes held; so does `copy_round`.
 #[tactic(auto, using(crate::proofs::Rings::ring_filled))]
 fn put_round(bytes: &mut [u8; PLACES], head: usize, len: usize, src: &[u8])
     requires start { head < capacity }
