@@ -1,12 +1,12 @@
 // What can be done with a queue: bytes go in and out in runs, at most two copies to a call.
-#![tactic(auto, using(crate::proofs::Rings::length_ring, crate::proofs::Rings::ring_run, crate::proofs::Rings::ring_rest), unfolding(crate::specs::Queues::held))]
+#![tactic(auto, using(crate::proofs::Rings::length_ring, crate::proofs::Rings::ring_front, crate::proofs::Rings::ring_rest))]
 
-ghost use Rattle.std.specs.Prelude.{◌≡◌, ◌+◌, ◌-◌, ◌<◌, ◌≤◌, [], ◌++◌, length, drop};
-ghost use Rattle.serial.specs.Queues.{held, Put, Got, Run, Shown, Wrapped};
+ghost use Rattle.std.specs.Prelude.{◌≡◌, ◌+◌, ◌<◌, ◌≤◌, [], ◌++◌, length, take, drop};
+ghost use Rattle.serial.specs.Queues.{ring, Put, Got, Wrapped};
 ghost use Rattle.serial.specs.Sizes.{capacity};
 
 use crate::queue::{PLACES, Queue};
-use byte_slices::fill_at;
+use byte_slices::{fill_at, fill_front};
 
 // The place in the ring of the place `n` in two rounds of it.
 fn wrap(n: usize) -> usize
@@ -16,9 +16,32 @@ fn wrap(n: usize) -> usize
     if n < PLACES { n } else { n - PLACES }
 }
 
+// All of `src` behind the `len` bytes from `head` on: one copy up to the ring's end, and one for the rest at its start.
+// It takes the fields one by one, since a clause on a `Queue` sees only the bytes held; so does `copy_round`.
+#[tactic(auto, using(crate::proofs::Rings::ring_filled))]
+fn put_round(bytes: &mut [u8; PLACES], head: usize, len: usize, src: &[u8])
+    requires start { head < capacity }
+    requires room { len + length src.now ≤ capacity }
+    ensures { ring bytes.new head (len + length src.now) ≡ ring bytes.old head len ++ src.now }
+{
+    let first = fill_at(bytes, wrap(head + len), src);
+    let _ = fill_at(bytes, wrap(head + len + first), &src[first..]);
+}
+
+// Fills `dst` with the bytes from `head` on, up to the ring's end and then from its start.
+#[tactic(auto, using(crate::proofs::Rings::ring_copied))]
+fn copy_round(bytes: &[u8; PLACES], head: usize, dst: &mut [u8])
+    requires start { head < capacity }
+    requires size { length dst.old ≤ capacity }
+    ensures { dst.new ≡ ring bytes.now head (length dst.old) }
+{
+    let first = fill_front(dst, &bytes[head..]);
+    let _ = fill_at(dst, first, bytes);
+}
+
 impl Queue {
     pub fn new() -> Queue
-        ensures { held result ≡ [] }
+        ensures { result ≡ [] }
     {
         Queue {
             bytes: [0; PLACES],
@@ -28,77 +51,36 @@ impl Queue {
     }
 
     pub fn len(&self) -> usize
-        ensures value { result ≡ length (held self.now) }
+        ensures value { result ≡ length self.now }
         ensures fits { result ≤ capacity }
-        ensures field { result ≡ self.now.len }
     {
         self.len
     }
 
     pub fn empty(&mut self)
-        ensures { held self.new ≡ [] }
+        ensures { self.new ≡ [] }
     {
         self.len = 0;
-    }
-
-    // One copy behind what is held, of as much of `src` as lies before the ring's end.
-    fn put_run(&mut self, src: &[u8]) -> usize
-        requires { self.old.len + length src.now ≤ capacity }
-        ensures { Run self.old self.new src.now result }
-    {
-        let len = self.len;
-        let tail = wrap(self.head + len);
-        let j = fill_at(&mut self.bytes, tail, src);
-        self.len = len + j;
-        j
-    }
-
-    // All of `src` behind what is held: one copy up to the ring's end, and one for the rest at its start.
-    fn put_all(&mut self, src: &[u8])
-        requires { self.old.len + length src.now ≤ capacity }
-        ensures holds { held self.new ≡ held self.old ++ src.now }
-        ensures grown { length (held self.new) ≡ length (held self.old) + length src.now }
-    {
-        let first = self.put_run(src);
-        let _ = self.put_run(&src[first..]);
     }
 
     // Takes as much of `src` as there is room for, and answers how much.
     pub fn put(&mut self, src: &[u8]) -> usize
         ensures { Put self.old self.new src.now result }
     {
-        let k = src.len().min(PLACES - self.len());
-        self.put_all(&src[..k]);
+        let k = src.len().min(PLACES - self.len);
+        put_round(&mut self.bytes, self.head, self.len, &src[..k]);
+        self.len += k;
         k
-    }
-
-    // Copies as much as fits to the front of `dst`, up to the ring's end and then from its start, and answers how much.
-    fn copy_front(&self, dst: &mut [u8]) -> usize
-        ensures { Shown self.now dst.old dst.new result }
-    {
-        let k = dst.len().min(self.len);
-        let first = k.min(PLACES - self.head);
-        let _ = fill_at(dst, 0, &self.bytes[self.head..self.head + first]);
-        let _ = fill_at(dst, first, &self.bytes[..k - first]);
-        k
-    }
-
-    // Lets the first `k` bytes go.
-    fn skip(&mut self, k: usize)
-        requires { k ≤ self.old.len }
-        ensures holds { held self.new ≡ drop k (held self.old) }
-        ensures shrunk { length (held self.new) ≡ length (held self.old) - k }
-    {
-        self.head = wrap(self.head + k);
-        self.len -= k;
     }
 
     // Moves as much as fits to the front of `dst`, and answers how much.
     pub fn get(&mut self, dst: &mut [u8]) -> usize
         ensures { Got self.old self.new dst.old dst.new result }
     {
-        let k = self.copy_front(dst);
-        self.skip(k);
+        let k = dst.len().min(self.len);
+        copy_round(&self.bytes, self.head, &mut dst[..k]);
+        self.head = wrap(self.head + k);
+        self.len -= k;
         k
     }
 }
