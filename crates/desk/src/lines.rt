@@ -42,9 +42,5 @@ pub fn without_port(script: &[u8]) -> Option<&[u8]>
     ensures { Opens script.now result }
 {
     let (line, rest) = first_line(script);
-    if line == b"port controlled".as_slice() {
-        Some(rest)
-    } else {
-        None
-    }
+    (line == b"port controlled".as_slice()).then_some(rest)
 }

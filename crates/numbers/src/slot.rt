@@ -80,6 +80,7 @@ impl Pending {
     fn step(&self, message: &Message<'_>) -> Option<Step>
         ensures { stepped result ≡ tells_pending (pending_of self.now) (message_of message.now) }
     {
+        // tried: `then`; the proof did not close, since nothing is learnt of what its closure returns
         if self.address.is_that_of(&message.address()) {
             Some(next_step(self.listing, self.browse, message))
         } else {

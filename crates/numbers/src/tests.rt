@@ -22,20 +22,15 @@ fn begun(line: &[u8]) -> Option<Pending> {
     Pending::begun(&read(Side::Command, line).ok()?)
 }
 
-fn opened(numbers: &mut Numbers, n: u8, line: &[u8]) -> bool {
-    match begun(line) {
-        Some(pending) => {
-            numbers.open(n, pending);
-            true
-        }
-        None => false,
-    }
+fn opened(numbers: &mut Numbers, n: u8, line: &[u8]) -> Option<()> {
+    numbers.open(n, begun(line)?);
+    Some(())
 }
 
 #[test]
 fn a_listing(rt: HostRuntime) {
     let mut numbers = Numbers::new();
-    assert!(rt; opened(&mut numbers, 3, b"01.01/3/BROWSE:x:"));
+    assert!(rt; opened(&mut numbers, 3, b"01.01/3/BROWSE:x:").is_some());
     assert_eq!(rt;
         told(
             &mut numbers,
@@ -69,7 +64,7 @@ fn goes_round(rt: HostRuntime) {
     let mut numbers = Numbers::new();
     for n in 0..10u8 {
         assert_eq!(rt; numbers.next_free(), Some(n));
-        assert!(rt; opened(&mut numbers, n, b"01/0/PAUSE:"));
+        assert!(rt; opened(&mut numbers, n, b"01/0/PAUSE:").is_some());
     }
     assert_eq!(rt; told(&mut numbers, b"01/3/000:/91"), Some(Match::Last));
     assert_eq!(rt; numbers.settle(4), Outcome::GivenUp);

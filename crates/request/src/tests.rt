@@ -5,10 +5,9 @@ use std::test::Fail;
 fn writes(address: &[u8], number: u8, body: &[u8], line: &[u8]) -> bool {
     let request = Request { address, body };
     let mut out = [0u8; 1024];
-    match request.prepare(number, &mut out) {
-        Ok(prepared) => prepared.length <= 1024 && &out[..prepared.length] == line,
-        Err(_) => false,
-    }
+    request
+        .prepare(number, &mut out)
+        .is_ok_and(|prepared| out.get(..prepared.length) == Some(line))
 }
 
 #[test]
@@ -50,14 +49,6 @@ fn refused_for_the_buffer(rt: HostRuntime) -> Result<(), Fail> {
         address: b"01",
         body: b"DOWN:",
     };
-    match request.prepare(1, &mut out) {
-        Ok(_) => {
-            assert!(rt; false);
-            Ok(())
-        },
-        Err(fault) => {
-            assert_eq!(rt; fault.number(), 14);
-            Ok(())
-        },
-    }
+    assert!(rt; matches!(request.prepare(1, &mut out), Err(fault) if fault.number() == 14));
+    Ok(())
 }

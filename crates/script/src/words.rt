@@ -32,7 +32,7 @@ fn with_digit(value: usize, d: u8) -> Option<usize>
 {
     match d {
         b'0'..=b'9' => {
-            let more = value * 10 + (d - b'0') as usize;
+            let more = value * 10 + usize::from(d - b'0');
             (more <= SIZE_MAX).then_some(more)
         }
         _ => None,

@@ -36,7 +36,7 @@ impl Unfinished {
     pub fn whole(&self) -> Option<&[u8]>
         ensures { option_copied result ≡ whole self.now }
     {
-        if self.over { None } else { Some(self.held()) }
+        (!self.over).then(|| self.held())
     }
 
     // Lets the line go.
