@@ -21,7 +21,7 @@ impl fmt::Display for SpelledByte {
             b'\t' => f.write_str("\\t"),
             b' '..=b'~' => f.write_char(b as char),
             _ => {
-                // tried: one `{b:03}`; its proof did not close
+                // tried: one `{b:03}`; its proof did not close. What is shown goes to a formatter, so no array of digits is made.
                 let hundreds = b / 100;
                 let tens = b / 10 % 10;
                 let ones = b % 10;

@@ -75,7 +75,7 @@ pub fn broken_at(s: &[u8]) -> Option<usize>
     ensures { result ≡ first_broken (tokens s.now) }
 {
     let mut rest = s;
-    // a loop over tokens of one to five bytes: an iterator of tokens would need a list of what follows each
+    // a loop: tokens have one to five bytes, and an iterator over them would hide where each begins
     loop {
         match first_of(rest) {
             Front::Over => return None, // every backslash began an escape

@@ -14,7 +14,7 @@ fn next_byte(s: &[u8]) -> Option<(u8, &[u8])>
 {
     match first_of(s) {
         Front::Over | Front::Broken => None,
-        // two arms: as one, the proof would have to name a step that the checker numbers by itself
+        // tried: the two arms as one; the proof would have to cite a step by a number that the checker gives
         Front::Plain(b, rest) => Some((b, rest)),
         Front::Escape(b, rest) => Some((b, rest)),
     }
@@ -54,6 +54,7 @@ pub fn resolve(field: &[u8], out: &mut [u8]) -> Option<usize>
     if len > out.len() {
         return None;
     }
+    // by index: of what an adapter of `iter_mut` lends out, no contract says what it holds afterwards
     for (i, b) in Meaning(field).enumerate() {
         out[i] = b;
     }
@@ -64,6 +65,7 @@ pub fn resolve(field: &[u8], out: &mut [u8]) -> Option<usize>
 pub fn means(field: &[u8], text: &[u8]) -> bool
     ensures { result ≡ same_bytes (resolved field.now) text.now }
 {
+    // tried: `Iterator::eq`; the proof did not close
     let mut meant = Meaning(field);
     for b in text {
         if meant.next() != Some(*b) {

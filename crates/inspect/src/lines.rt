@@ -4,6 +4,7 @@ ghost use Rattle.std.specs.List.{position};
 ghost use Rattle.inspect.specs.Lines.{is_end, cut_line};
 ghost use Rattle.inspect.specs.Meanings.{cut_off, Shorter};
 
+// One line, as in `reader`, on which this program does not stand.
 fn is_end(b: u8) -> bool
     ensures { result ≡ is_end b }
 {

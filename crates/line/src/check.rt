@@ -33,7 +33,7 @@ pub fn check_sum(bytes: &[u8]) -> u8
     for b in bytes {
         sum = (sum + u32::from(*b)) % 100;
     }
-    sum as u8
+    sum as u8 // below 100, so nothing is lost
 }
 
 // The value of the check, where there is one; `summed` are the bytes that it sums, and it stands behind them.

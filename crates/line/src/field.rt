@@ -18,6 +18,7 @@ fn part_at(body: &[u8], index: usize) -> Option<&[u8]>
     ensures { behind result ≡ slice_get (before_last (parts 58 body.now)) index }
 {
     let mut rest = body;
+    // a count, and no index: an iterator of parts would give no word of what is left behind each
     for _passed in 0..index {
         rest = cut(rest, b':')?.1;
     }

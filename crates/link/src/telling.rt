@@ -23,6 +23,7 @@ fn read_answer(line: &[u8]) -> Result<Message<'_>, Fault>
     read(Side::Answer, line)
 }
 
+// A digit's number fits a byte, so the cast loses nothing.
 fn number_in(mark: char) -> Option<u8>
     ensures { result ≡ digit_number mark }
 {

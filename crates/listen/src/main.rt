@@ -12,6 +12,7 @@ const ROWS_MAX: usize = 65536;
 // A row for each line, until nothing is left.
 fn tell(rt: &HostRuntime, mut link: Link<Tape>) -> anyhow::Result<()> {
     let mut buffer = [0; 1024];
+    // a bound, as every loop has one; each turn changes the link, which a closure would hide
     for _ in 0..ROWS_MAX {
         let pumped = link
             .pump(&mut buffer)

@@ -20,6 +20,7 @@ pub struct Numbers {
     recent: u8,
 }
 
+// What `recent` and `foreign` promise stands in each call as it is: a name would be longer than the fact.
 impl Numbers {
     // All are free, and 0 is given first.
     #[tactic(auto, using(crate::proofs::Standing::all_free), unfolding(crate::specs::Ten::slots_of))]

@@ -8,6 +8,7 @@ pub fn digits<const N: usize>(n: u32) -> [u8; N]
 {
     let mut out = [b'0'; N];
     let mut rest = n;
+    // by index: of what an adapter of `iter_mut` lends out, no contract says what it holds afterwards
     for i in 0..N {
         out[N - 1 - i] = b'0' + (rest % 10) as u8;
         rest /= 10;

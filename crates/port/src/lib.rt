@@ -31,7 +31,7 @@ pub trait Port {
     fn write(&mut self, bytes: &[u8]) -> usize
         ensures { Written (meaning self.old) (meaning self.new) bytes.now result };
 
-    // How many bytes more may be written, and whether it is clear to send.
+    // How many bytes more may be written, and whether it is clear to send: the pair that a port's interface has.
     fn room(&self) -> (usize, bool)
         ensures room { result.0 ≡ (meaning self.now).room_out }
         ensures clear { result.1 ≡ (meaning self.now).clear };

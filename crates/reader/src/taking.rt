@@ -6,7 +6,7 @@ use crate::Unfinished;
 use port::Port;
 
 // Takes bytes one at a time, so that none beyond the line's end is taken, until a line that is not empty ends or nothing waits.
-// True: the unfinished line has ended, and is held until it is cleared.
+// True: the unfinished line has ended, and is held until it is cleared. A flag, since the line itself stays where it is held.
 pub fn next_line<P: Port>(port: &mut P, unfinished: &mut Unfinished) -> bool
     ensures { Comes (P.Port.meaning port.old) (P.Port.meaning port.new) unfinished.old unfinished.new result }
 {

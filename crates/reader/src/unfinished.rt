@@ -9,6 +9,7 @@ pub const MOST: usize = 1024;
 #[derive(Drop)]
 pub struct Unfinished {
     bytes: ArrayVec<u8, MOST>,
+    // a flag, and no Option round the bytes: the first ones are held, and handed out, also of a line that is too long
     over: bool,
 }
 

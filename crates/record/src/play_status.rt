@@ -40,7 +40,7 @@ fn speed_in(fields: &Fields) -> Result<u8, Fault>
     ensures small { ReadBelow 4 result }
 {
     match fields.number(2, 1)? {
-        n @ 0..=SPEED_MAX => Ok(n as u8),
+        n @ 0..=SPEED_MAX => Ok(n as u8), // nothing is lost below 4
         _ => Err(Fault::RecordForm(2)),
     }
 }

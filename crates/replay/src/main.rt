@@ -18,6 +18,7 @@ const LINK_NUMBER: u16 = 1;
 fn tell_all<P: Port>(rt: &HostRuntime, desk: &mut Desk<P>, script: &[u8]) -> anyhow::Result<()> {
     let mut buffer = vec![in rt.alloc(); 0; SCRIPT_MAX]?;
     let mut rest = script;
+    // the script is taken apart line by line: an iterator over it would be a type more for this one loop
     while !rest.is_empty() {
         let (line, more) = first_line(rest);
         rest = more;

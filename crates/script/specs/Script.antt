@@ -1,7 +1,7 @@
 -- A line of a script is a word, and for some calls one or two words more: words are separated by one space, and the last may hold spaces.
-use Rattle.std.specs.Prelude.{ℕ, ◌+◌, ◌-◌, ◌*◌, Bool, true, false, cond, List, [], ◌∷◌, Some, None, codes, Option, ◌==◌, nat_eq, nat_le}
+use Rattle.std.specs.Prelude.{ℕ, ◌+◌, ◌-◌, ◌*◌, Bool, true, false, cond, List, [], ◌∷◌, Some, None, codes, Option, ◌==◌, nat_le}
 use Rattle.escape.specs.Tokens.{digit, tokens, first_broken}
-use Rattle.std.specs.Cmp.Lexicographic.{pointwise}
+use Rattle.escape.specs.Texts.{same_bytes}
 
 pub data Call : Type 0 where
   submit : List ℕ → List ℕ → Call
@@ -19,9 +19,6 @@ pub data Call : Type 0 where
 -- ---- words
 abbrev pub is_space : ℕ → Bool
 is_space b = b == 32
-
-abbrev pub same_bytes : List ℕ → List ℕ → Bool
-same_bytes = pointwise nat_eq
 
 abbrev pub longer : ℕ → List ℕ × Option (List ℕ) → List ℕ × Option (List ℕ)
 longer b p = (b ∷ p.0, p.1)

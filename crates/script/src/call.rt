@@ -63,10 +63,7 @@ fn settle<'a>(word: &'a [u8]) -> Option<Call<'a>>
 fn arrive<'a>(text: &'a [u8]) -> Option<Call<'a>>
     ensures { or_unknown result asked ≡ unbroken (first_broken (tokens text.now)) text.now }
 {
-    match broken_at(text) {
-        None => Some(Call::Arrive(text)),
-        Some(_) => None,
-    }
+    broken_at(text).is_none().then_some(Call::Arrive(text))
 }
 
 fn clear<'a>(word: &'a [u8]) -> Option<Call<'a>>

@@ -1,5 +1,5 @@
 // Words and numbers of a line.
-ghost use Rattle.std.specs.Prelude.{◌≡◌, ◌≤◌, Some, None};
+ghost use Rattle.std.specs.Prelude.{◌≡◌, ◌≤◌, Some, IfSome};
 ghost use Rattle.std.specs.List.{position};
 ghost use Rattle.script.specs.Script.{is_space, cut_word, number_to, one_digit_more};
 ghost use Rattle.script.specs.Meanings.{split};
@@ -28,7 +28,7 @@ pub(crate) const SIZE_MAX: usize = 4096;
 fn with_digit(value: usize, d: u8) -> Option<usize>
     requires { value ≤ 4096 }
     ensures value { result ≡ one_digit_more 4096 d (Some value) }
-    ensures bound { elim result [ Some n ↦ n ≤ 4096 | None ↦ Unit {0} ] }
+    ensures bound { IfSome result (λ n. n ≤ 4096) }
 {
     match d {
         b'0'..=b'9' => {

@@ -11,6 +11,7 @@ pub mod as_port;
 pub struct Serial {
     input: Queue,
     output: Queue,
+    // whether it is clear to send, a part of every port
     clear: bool,
     ghost input_fits: { length input ≤ capacity },
     ghost output_fits: { length output ≤ capacity },

@@ -13,6 +13,7 @@ pub struct Tape {
     sent: usize,
     // how much may be written; the memory for all of it is there from the start, so that no write can fail
     places: usize,
+    // whether it is clear to send, a part of every port
     clear: bool,
     ghost playing: { played ≤ vec_len recording },
     ghost order: { sent ≤ vec_len out },

@@ -38,6 +38,7 @@ impl<'a> Writer<'a> {
         ensures { Pushed self.old self.new (respelt (tokens body.now)) }
     {
         let mut rest = body;
+        // a loop over tokens, as in `body_len`
         loop {
             match first_of(rest) {
                 Front::Over | Front::Broken => return,

@@ -43,7 +43,7 @@ impl<'a> Head<'a> {
         if !first.is_some_and(|first| is_first_field(side, first)) {
             return Err(Fault::FirstField(place + MARK_LEN));
         }
-        let mark = mark as u8;
+        let mark = mark as u8; // a digit, `!` or `?`, so nothing is lost
         Ok(Head { address, mark })
     }
 

@@ -9,6 +9,7 @@ pub struct Writer<'a> {
     pub(crate) out: &'a mut [u8],
     // 0 where an Option would be None: a byte goes in at this place, and an Option would have to be opened and closed at each
     pub(crate) len: usize,
+    // a flag beside the length: an enum of the states of a line would hold the length in two of its cases
     pub(crate) bare: bool,
     ghost ready: { (0 < len → len + 3 ≤ length out.now) },
     ghost short: { len + 3 ≤ 1024 },

@@ -1,7 +1,7 @@
 // A line written by a chain of a writer's calls, with tests of what is written and read.
 #![tactic(auto)]
 
-ghost use Rattle.std.specs.Prelude.{◌≡◌, [], ◌∷◌, Ok, Err};
+ghost use Rattle.std.specs.Prelude.{[], ◌∷◌, IfOk};
 ghost use Rattle.line.specs.Forms.{command};
 ghost use Rattle.writer.specs.Writing.{Closed, begun, with_field};
 
@@ -10,7 +10,7 @@ use writer::Writer;
 
 // Writes a command of the device 01 with one field beside its name.
 pub fn command_line(out: &mut [u8], mark: char, name: &[u8], field: &[u8]) -> Result<usize, Fault>
-    ensures { elim result [ Ok n ↦ Closed out.old (with_field (begun command (48 ∷ 49 ∷ []) mark name.now) field.now) out.new n | Err f ↦ Unit {0} ] }
+    ensures { IfOk result (λ n. Closed out.old (with_field (begun command (48 ∷ 49 ∷ []) mark name.now) field.now) out.new n) }
 {
     let mut writer = Writer::over(out);
     writer.begin(Side::Command, b"01", mark, name)?;

@@ -8,7 +8,7 @@ use crate::pumped::Pumped;
 use crate::telling::kind_of;
 
 impl Core {
-    pub fn hand_out(&mut self, buffer: &mut [u8]) -> Pumped
+    pub(crate) fn hand_out(&mut self, buffer: &mut [u8]) -> Pumped
         requires { 1024 ≤ length buffer.old }
         ensures line { HandedOut self.old.unfinished self.new.unfinished (slots_of self.old.numbers) (slots_of self.new.numbers) buffer.old buffer.new result }
         ensures number { self.new.number ≡ self.old.number }

@@ -52,6 +52,7 @@ impl<P: Port> Link<P> {
         ensures does { Submitted (state_of P.Port.meaning self.old) address.now body.now result (state_of P.Port.meaning self.new) }
         ensures refused { OnErr result (self.new ≡ self.old) }
     {
+        // the public call takes the two apart, as its callers have them
         let request = Request { address, body };
         let mut line = [0u8; LINE_ROOM];
         let Some(number) = self.core.numbers.next_free() else {

@@ -8,6 +8,7 @@ ghost use Rattle.reader.specs.Unfinished.{went_on};
 use crate::unfinished::Unfinished;
 use arrayvec::ArrayVec;
 
+// One line, as in `inspect`: the two stand on no crate in common that knows lines of a stream.
 fn ends_line(byte: u8) -> bool
     ensures { result ≡ is_end byte }
 {
