@@ -20,6 +20,7 @@ pub struct Request<'a> {
 
 // Copies bytes behind the `at` bytes that are written, and answers how many are written then.
 // fixed memory: a line grows at the front of the caller's buffer, with its length beside it
+// a twin of the one in `writer`, private like it: public, it would have a precondition
 fn put(line: &mut [u8], at: usize, bytes: &[u8]) -> usize
     requires { at + length bytes.now ≤ length line.old }
     ensures end { result ≡ at + length bytes.now }
