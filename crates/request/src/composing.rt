@@ -19,8 +19,8 @@ pub struct Request<'a> {
 }
 
 // Copies bytes behind the `at` bytes that are written, and answers how many are written then.
-// fixed memory: a line grows at the front of the caller's buffer, with its length beside it
-// a twin of the one in `writer`, private like it: public, it would have a precondition
+// Fixed memory: a line grows at the front of the caller's buffer, with its length beside it.
+// The crate `writer` has its own: a public function has no precondition here, and this one would ask its callers for the room.
 fn put(line: &mut [u8], at: usize, bytes: &[u8]) -> usize
     requires { at + length bytes.now ≤ length line.old }
     ensures end { result ≡ at + length bytes.now }

@@ -12,7 +12,7 @@ use numbers::Pending;
 use writer::rewrite;
 
 // A command that is ready to be sent: the length of its line, and what a link keeps of it until it is answered.
-// fixed memory: the line itself lies at the front of the caller's buffer, where its end is still to be put behind it
+// Fixed memory: the line itself lies at the front of the caller's buffer, where its end is still to be put behind it
 #[derive(Clone, Copy)]
 pub struct Prepared {
     pub length: usize,

@@ -11,7 +11,7 @@ use crate::page::Writer;
 use crate::spelled::numbered;
 
 // Copies bytes behind the `at` bytes that are written, and answers how many are written then.
-// The crate request has its own: a public function would ask its callers for the room.
+// The crate `request` has its own: a public function has no precondition here, and this one would ask its callers for the room.
 pub(crate) fn put(out: &mut [u8], at: usize, bytes: &[u8]) -> usize
     requires { at + length bytes.now ≤ length out.old }
     ensures end { result ≡ at + length bytes.now }
