@@ -14,7 +14,6 @@ pub(crate) struct Fields<'a> {
     pub(crate) message: Message<'a>,
 }
 
-// A place is at most 8, so that the index behind it fits: said at each method that takes one, since a type for it would be opened at once.
 impl<'a> Fields<'a> {
     // A field as it stands in the line; an empty one where there is none.
     pub(crate) fn raw(&self, place: usize) -> &'a [u8]

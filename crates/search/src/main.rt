@@ -54,7 +54,6 @@ impl fmt::Display for Found {
         }
         let lines = self.lines;
         write!(f, "{lines} came, ")?;
-        // not by its own `Display`, whose capitals are those of a row of `replay`
         match self.outcome {
             Outcome::Answered => f.write_str("answered"),
             Outcome::GivenUp => f.write_str("given up"),
