@@ -8,10 +8,6 @@ use Rattle.byte_slices.specs.Parts.{part, Filled}
 pub part_gone : (list : List ℕ) (first end k : ℕ) → k ≤ end - first → part list (first + k) end ≡ drop k (part list first end)
 part_gone list first end k h = same_lists _ _ (search (rules, places)) (λ i d l. grind (arith, places))
 
--- The part that is there once the first k of src stand behind it.
-pub part_more : (old new src rest : List ℕ) (first end k : ℕ) → new ≡ take end old ++ (take k src ++ rest) → first ≤ end → end ≤ length old → k ≤ length src → part new first (end + k) ≡ part old first end ++ take k src
-part_more old new src rest first end k is a b e = rw is (same_lists _ _ (search (rules, places)) (λ i d l. grind (arith, places)))
-
 -- A list that was filled from a place on, or from its end where it does not reach so far.
 put_rest : (old rest src : List ℕ) (at start k : ℕ) → start ≡ min at (length old) → rest ≡ take k src ++ drop k (take (length old - start) (drop start old)) → k ≤ length src → k ≤ length old - start → put_mid start (length old - start) old rest ≡ take at old ++ (take k src ++ drop (at + k) old)
 put_rest old rest src at start k e is a b = rw is (same_lists _ _ (search (rules, places)) (λ i d l. grind (arith, places)))

@@ -1,5 +1,5 @@
 -- Bytes laid into a buffer one after another, until nothing is left to lay.
-use Rattle.std.proofs.Common.{◌≡◌, ℕ, ◌+◌, ◌<◌, ◌≤◌, List, [], ◌∷◌, ◌++◌, length, take, drop, set, Some, None, sym, ap, ◌∙◌, append_assoc, add-zero, arith, take-append-drop, le-leb}
+use Rattle.std.proofs.Common.{◌≡◌, ℕ, ◌+◌, ◌<◌, ◌≤◌, List, [], ◌∷◌, ◌++◌, length, take, drop, set, None, sym, ap, ◌∙◌, append_assoc, add-zero, arith, take-append-drop, le-leb}
 use borrow.Author.Tests.{lt-leb}
 use Rattle.std.proofs.lemmas.List.{take_more_set, drop-set-lt}
 use Rattle.escape.specs.Resolving.{fitting, written}
@@ -23,9 +23,6 @@ laid_next out was later n i m b e at next h =
 
 pub laid_all : (out : List ℕ) (n : ℕ) → laid out n [] ≡ out
 laid_all out n = rw (add-zero n) (take-append-drop n out)
-
-pub fits : (bs out : List ℕ) (n : ℕ) → n ≡ length bs → n ≤ length out → Some n ≡ fitting bs (length out)
-fits bs out n e h = rw (e, le-leb (length bs) (length out) (omega arith))
 
 pub wrote : (bs out : List ℕ) → length bs ≤ length out → laid out 0 bs ≡ written bs out
 wrote bs out h = rw (le-leb (length bs) (length out) h) (ap (λ (i : ℕ). bs ++ drop i out) (omega arith))

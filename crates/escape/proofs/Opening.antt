@@ -32,10 +32,6 @@ after_number x s e = ap (λ (c : ℕ). after_backslash (c ∷ s)) e
 between : (b : ℕ) (s : List ℕ) (n : ℕ) → n ≤ length s → take (length (b ∷ s) - length (drop n s) - 1) (drop 1 (b ∷ s)) ≡ take n s
 between b s n h = ap (λ (k : ℕ). take k s) (omega (arith, length-drop n s))
 
-pub plain_front : (s : List ℕ) → 1 ≤ length s → (get_or s 0 0 ≡ 92 → ⊥) → plain (get_or s 0 0) ∷ tokens (take (length s - 1) (drop 1 s)) ≡ tokens s
-plain_front [] h ne = absurd (omega arith)
-plain_front (b ∷ s) h ne = rw (rest_of 1 (b ∷ s) h) (sym (tokens_plain b s ne))
-
 pub not_d : (x b : ℕ) → short x ≡ Some b → x ≡ 100 → ⊥
 not_d x b e d = let q : short 100 ≡ Some b = sym (ap short d) ∙ e in let z : ◌≡◌ {A = ℕ} 0 1 = cc in omega arith
 

@@ -1,5 +1,5 @@
 -- Going through a list of bytes token by token: what was passed, and what is left.
-use Rattle.std.proofs.Common.{◌≡◌, ℕ, ◌+◌, ◌-◌, ◌<◌, ◌≤◌, Bool, true, false, eqb, List, [], ◌∷◌, ◌++◌, length, take, Some, None, Option, sym, refl, ap, ◌∙◌, append_assoc, append-nil, arith, length-append, eq-eqb, ne_eqb}
+use Rattle.std.proofs.Common.{◌≡◌, ℕ, ◌+◌, ◌-◌, ◌<◌, Bool, true, false, eqb, List, [], ◌∷◌, ◌++◌, length, take, Some, None, Option, sym, refl, ap, ◌∙◌, append_assoc, append-nil, arith, length-append, eq-eqb, ne_eqb}
 use Rattle.std.proofs.lemmas.List.{take_at}
 use Rattle.escape.specs.Tokens.{Token, plain, escape, broken, tokens, spelt, text, further, first_broken, ahead, parts_of, parts}
 use Rattle.escape.proofs.ByTokens.{text_tokens}
@@ -42,14 +42,6 @@ sought_more s rest more t e one w =
 
 pub sought_escape : (bytes : List ℕ) (o : Option ℕ) → further (1 + length bytes) o ≡ further (length (92 ∷ bytes)) o
 sought_escape bytes o = ap (λ (n : ℕ). further n o) (omega arith)
-
-pub sought_none : (s rest : List ℕ) → [] ≡ tokens rest → Sought s rest → None ≡ first_broken (tokens s)
-sought_none s rest e w = sym (w.2 ∙ ap (λ (ts : List Token). further (length w.0) (first_broken ts)) (sym e))
-
-pub sought_found : (s rest after : List ℕ) → broken after ∷ [] ≡ tokens rest → Sought s rest → Some (length s - length rest) ≡ first_broken (tokens s)
-sought_found s rest after e w =
-    let n : length s - length rest ≡ length w.0 + 0 = omega (arith, front_of w.0 rest s w.1) in
-    ap Some n ∙ sym (w.2 ∙ ap (λ (ts : List Token). further (length w.0) (first_broken ts)) (sym e))
 
 -- ---- looking for a byte to cut at
 abbrev pub Passed : ℕ → List ℕ → List ℕ → Type 0
@@ -115,9 +107,3 @@ pub passed_joins : (c b : ℕ) (s rest more : List ℕ) → plain b ∷ tokens m
 passed_joins c b s rest more e is w =
     w.1 ∙ ap (λ (x : List ℕ). w.0 ++ x) (front_text rest more (plain b) e ∙ ap (λ (x : ℕ). x ∷ more) is)
     ∙ ap (λ (x : List ℕ). x ++ (c ∷ more)) (sym (passed_front c s rest w))
-
-pub within : (c : ℕ) (s rest : List ℕ) → Passed c s rest → length rest ≤ length s
-within c s rest w = omega (arith, ap length w.1, length-append w.0 rest)
-
-pub within_sought : (s rest : List ℕ) → Sought s rest → length rest ≤ length s
-within_sought s rest w = omega (arith, ap length w.1, length-append w.0 rest)

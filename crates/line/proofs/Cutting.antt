@@ -44,9 +44,6 @@ module _ (line a r m s : List ℕ)
     check_sizes : length line - length c ≡ length a + 1 + length m + 1 + length b + 1
     check_sizes = omega (arith, sizes, ap length three, length-append b (47 ∷ c))
 
-    pub check_within : length c ≤ length line
-    check_within = omega (arith, sizes, ap length three, length-append b (47 ∷ c))
-
     pub check_sums : Sums line (length a + 1 + length m + 1 + length b + 1) (take (length line - length c - 0) line) (Some c)
     check_sums =
         let n : length line - length c - 0 ≡ length a + 1 + length m + 1 + length b + 1 = omega (arith, check_sizes) in

@@ -10,7 +10,7 @@ use Rattle.line.specs.Reads.{first_of}
 use Rattle.line.specs.Fields.{body_of, raw_fields, before_last, field_answer, field_written}
 use Rattle.escape.specs.Resolving.{fitting, written}
 use Rattle.line.specs.declared.fault.Fault.{Fault}
-use Rattle.line.specs.declared.fault.Fault.TheVariants.{ShortBuffer, NoField}
+use Rattle.line.specs.declared.fault.Fault.TheVariants.{ShortBuffer}
 use Rattle.line.specs.declared.message.Message.{Message}
 use Rattle.line.specs.declared.message.Message.TheVariants.{Answer, Event, Command}
 
@@ -25,14 +25,8 @@ next_nth : (f : List ℕ) (ps : List (List ℕ)) (n : ℕ) → 0 < n → slice_g
 next_nth f ps zero h = absurd (omega arith)
 next_nth f ps (suc n) h = ap (slice_get ps) (omega arith)
 
-pub part_later : (s f after : List ℕ) (n : ℕ) → f ∷ parts 58 after ≡ parts 58 s → 0 < n → slice_get (before_last (parts 58 after)) (n - 1) ≡ slice_get (before_last (parts 58 s)) n
-part_later s f after n e h = sym (ap (λ (ps : List (List ℕ)). slice_get ps n) (front_part s f after e) ∙ next_nth f (before_last (parts 58 after)) n h)
-
 pub part_here : (s f after : List ℕ) (n : ℕ) → f ∷ parts 58 after ≡ parts 58 s → n ≡ 0 → Some f ≡ slice_get (before_last (parts 58 s)) n
 part_here s f after n e h = sym (ap (slice_get (before_last (parts 58 s))) h ∙ ap (λ (ps : List (List ℕ)). slice_get ps 0) (front_part s f after e))
-
-pub part_none : (s : List ℕ) (n : ℕ) → s ∷ [] ≡ parts 58 s → None ≡ slice_get (before_last (parts 58 s)) n
-part_none s n e = ap (λ (ps : List (List ℕ)). slice_get (before_last ps) n) e
 
 -- ---- a body of which each field is ended
 all_before : (ps fs : List (List ℕ)) → all_ended ps ≡ Some fs → before_last ps ≡ fs
@@ -52,13 +46,6 @@ raw_before body f e = go (all_ended (parts 58 body)) refl e
     go None h e = let z : ◌≡◌ {A = ℕ} 0 1 = cc in absurd (omega arith)
     go (Some []) h e = let z : ◌≡◌ {A = ℕ} 0 1 = cc in absurd (omega arith)
     go (Some (g ∷ gs)) h e = all_before (parts 58 body) (g ∷ gs) h
-
-pub raw_none : (body : List ℕ) (n : ℕ) → None ≡ first_of (fields_of body) → None ≡ slice_get (raw_fields (fields_of body)) n
-raw_none body n e = go (fields_of body) e
-  where
-    go : (o : Option (List ℕ × List (List ℕ))) → None ≡ first_of o → None ≡ slice_get (raw_fields o) n
-    go None e = refl
-    go (Some f) e = let z : ◌≡◌ {A = ℕ} 0 1 = cc in absurd (omega arith)
 
 -- ---- what a field means, from how it stands
 nth_map : (fs : List (List ℕ)) (n : ℕ) → slice_get (map resolved fs) n ≡ option_map resolved (slice_get fs n)
@@ -99,11 +86,6 @@ field_later m n f e z = meant_later (fields_of (body_of m)) n f e z ∙ ap (λ (
 pub record Answered (out new : List ℕ) (index : ℕ) (r : Result ℕ Fault) (field : Option (List ℕ)) : Type 0 where
   pub answer : r ≡ field_answer index (length out) field
   pub after : new ≡ field_written out field
-
-pub no_field : (m : Message) (out : List ℕ) (index : ℕ) → None ≡ slice_get (raw_fields (fields_of (body_of m))) index → Answered out out index (Err (NoField index)) (slice_get (message_of m).fields index)
-no_field m out index e =
-    let n = field_none m index e in
-    record { answer = ap (field_answer index (length out)) n; after = ap (field_written out) n }
 
 or_short : (bs : List ℕ) (index room : ℕ) → ok_or (fitting bs room) ShortBuffer ≡ field_answer index room (Some bs)
 or_short bs index room = go (leb (length bs) room)

@@ -1,11 +1,11 @@
 -- The turns of loops over bytes: a test of every byte, and a sum.
 use Rattle.std.proofs.Common.{◌≡◌, ℕ, suc, ◌+◌, ◌-◌, ◌<◌, ◌≤◌, Bool, true, false, not, ◌&&◌, cond, ltb, List, [], ◌∷◌, length, get_or, take, drop, Some, None, sym, refl, ap, ◌∙◌, arith, length-drop, take_all}
 use Rattle.std.specs.List.{list_all, position, position_or_len}
-use Rattle.std.proofs.lemmas.List.{at_drop_more, at_drop_all}
+use Rattle.std.proofs.lemmas.List.{at_drop_more}
 use Rattle.std.proofs.lemmas.Bool.{lt-ltb}
 use Rattle.std.proofs.lemmas.Bool.Decides.{nat_tests}
 use Rattle.escape.specs.Tokens.{further}
-use Rattle.line.specs.Forms.{every, sum, visible}
+use Rattle.line.specs.Forms.{every, visible}
 use Rattle.line.specs.Lines.{first_invisible}
 
 -- what `rest @ ..` after n elements holds
@@ -24,21 +24,6 @@ every_list test (b ∷ s) = go (test b) (every_list test s)
 module _ (test : ℕ → Bool) (all s : List ℕ) (i : ℕ) (e : every test all ≡ every test (drop i s)) where
   every_at : i < length s → every test all ≡ cond (test (get_or s i 0)) (every test (drop (i + 1) s)) false
   every_at h = let m : every test (drop i s) ≡ cond (test (get_or s i 0)) (every test (drop (i + 1) s)) false = at_drop_more (every test) s i 0 h in e ∙ m
-
-  pub every_more : i < length s → test (get_or s i 0) ≡ true → every test all ≡ every test (drop (i + 1) s)
-  every_more h p = every_at h ∙ ap (λ (b : Bool). cond b (every test (drop (i + 1) s)) false) p
-
-  pub every_stop : i < length s → test (get_or s i 0) ≡ false → false ≡ every test all
-  every_stop h p = sym (every_at h ∙ ap (λ (b : Bool). cond b (every test (drop (i + 1) s)) false) p)
-
-  pub every_all : length s ≤ i → true ≡ every test all
-  every_all h = sym (e ∙ at_drop_all (every test) s i h)
-
-pub sum_more : (s : List ℕ) (i : ℕ) → i < length s → sum (drop i s) ≡ get_or s i 0 + sum (drop (i + 1) s)
-sum_more s i h = at_drop_more sum s i 0 h
-
-pub sum_all : (s : List ℕ) (i : ℕ) → length s ≤ i → sum (drop i s) ≡ 0
-sum_all s i h = at_drop_all sum s i h
 
 -- ---- where the first byte stands that may not stand in a line
 ltb_suc : (a b : ℕ) → ltb (1 + a) (suc b) ≡ ltb a b

@@ -2,10 +2,10 @@
 use Rattle.std.proofs.Common.{◌≡◌, ℕ, ◌+◌, ◌-◌, ◌*◌, ◌^◌, ◌<◌, ◌≤◌, Bool, true, false, cond, leb, List, ◌++◌, length, get_or, take, drop, Some, None, sym, refl, ap, ◌∙◌, arith, pow-add}
 use native.Mathlib.Nat.{pow-le-pow_right, sub-zero}
 use Rattle.std.proofs.lemmas.List.{drop_more, drop_all, take_at}
-use Rattle.std.proofs.lemmas.Bool.{leb-true, leb-false, ne_eqb, lt-leb, le-leb}
+use Rattle.std.proofs.lemmas.Bool.{leb-true, leb-false, ne_eqb, le-leb}
 use Rattle.escape.specs.Tokens.{digit}
 use Rattle.escape.specs.Resolving.{fitting, written}
-use Rattle.numeral.specs.Numbers.{spelled_on, numeral, short_numeral, at_most, counted}
+use Rattle.numeral.specs.Numbers.{spelled_on, numeral, short_numeral}
 
 -- fewer than five digits spell a number below 10,000
 pub few : (i : ℕ) → i < 5 → 10 ^ i ≤ 10000
@@ -46,13 +46,6 @@ front bs out after n e is = go (leb (length bs) (length out)) refl e is
         (rw sub-zero (ap (take n) is ∙ take_at bs (drop (length bs) out) n (sym same)), same, omega arith)
     go false t e is = let z : ◌≡◌ {A = ℕ} 0 1 = cc in absurd (omega arith)
 
-pub too_many : (bs out : List ℕ) → None ≡ fitting bs (length out) → length out < length bs
-too_many bs out e = go (leb (length bs) (length out)) refl e
-  where
-    go : (t : Bool) → leb (length bs) (length out) ≡ t → None ≡ cond t (Some (length bs)) None → length out < length bs
-    go true t e = let z : ◌≡◌ {A = ℕ} 0 1 = cc in absurd (omega arith)
-    go false t e = leb-false (length bs) (length out) t
-
 -- a number of more digits than a record's have is no numeral and no count
 pub no_numeral : (bs : List ℕ) (width : ℕ) → width ≤ 5 → 5 < length bs → None ≡ numeral width bs
 no_numeral bs width h k = sym (ap (λ (t : Bool). cond t (spelled_on 0 bs) None) (ne_eqb (length bs) width (λ e. omega arith)))
@@ -74,10 +67,3 @@ short_none width bs more = go (leb width 5) refl
 
 pub short_is : (width : ℕ) (bs : List ℕ) → width ≤ 5 → short_numeral width bs ≡ numeral width bs
 short_is width bs few = ap (λ (t : Bool). cond t (numeral width bs) None) (le-leb width 5 few)
-
-pub no_count : (bs : List ℕ) → 5 < length bs → None ≡ counted bs
-no_count bs k = go (leb 1 (length bs))
-  where
-    go : (t : Bool) → None ≡ cond t (cond (leb (length bs) 5) (at_most 65535 (spelled_on 0 bs)) None) None
-    go true = sym (ap (λ (t : Bool). cond t (at_most 65535 (spelled_on 0 bs)) None) (lt-leb (length bs) 5 k))
-    go false = refl

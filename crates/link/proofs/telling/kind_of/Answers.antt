@@ -2,18 +2,11 @@ use Rattle.std.proofs.Common.{refl}
 use Rattle.std.specs.Option.{option_copied}
 use Rattle.line.specs.Meanings.{message_of}
 use Rattle.numbers.specs.Ten.{slots_of}
-use Rattle.link.proofs.RightKinds.{line_marked, tells_fault, tells_message}
+use Rattle.link.proofs.RightKinds.{line_marked, tells_fault}
 use Rattle.link.proofs.telling.kind_of.Goals as goal
 
 pub tell-requires : goal.tell-requires
 tell-requires c = line_marked (option_copied c.args.line) (message_of c.in-Ok.message) c.in-Ok.ensures
-
-pub returns-in-Ok : goal.returns-in-Ok
-returns-in-Ok c = record {
-  told = λ p e. tells_message (slots_of c.args.numbers.now) (slots_of c.tell.new.numbers) (option_copied c.args.line) p e (message_of c.in-Ok.message) c.tell.result
-      c.in-Ok.ensures c.tell.ensures.told;
-  recent = c.tell.ensures.recent;
-}
 
 pub returns-in-Err : goal.returns-in-Err
 returns-in-Err c = record {

@@ -1,16 +1,7 @@
 use Rattle.std.proofs.Common.{◌≡◌, ℕ, ◌+◌, ◌*◌, ◌^◌, ◌<◌, length, get_or, drop, sym, ap, ◌∙◌, subst, arith}
 use Rattle.numeral.specs.Numbers.{spelled_on}
-use Rattle.numeral.proofs.Numerals.{few, ten_times, digit_bounds, digit_on, digit_none, digits_end}
+use Rattle.numeral.proofs.Numerals.{ten_times, digit_bounds, digit_on, digit_none, digits_end}
 use Rattle.numeral.proofs.reading.value_of.Goals as goal
-
-pub overflow_mul-n : goal.overflow_mul-n
-overflow_mul-n c = let h = few c.loop-d.d-index (omega arith) in omega (arith, c.loop-d.invariant.0)
-
-pub overflow_add-n : goal.overflow_add-n
-overflow_add-n c =
-    let h = few c.loop-d.d-index (omega arith) in
-    let d = digit_bounds (get_or c.args.digits.now c.loop-d.d-index 0) c.if-not-is_digit.ensures in
-    omega (arith, c.loop-d.invariant.0)
 
 pub returns-then-not-is_digit : goal.returns-then-not-is_digit
 returns-then-not-is_digit c = record {

@@ -1,7 +1,7 @@
 use Rattle.std.proofs.Common.{get_or, take, refl, rules}
 use Rattle.std.proofs.Output.{has_written_append, has_written_of_eq}
 use Rattle.escape.specs.Spelling.{spelled, spelling}
-use Rattle.console.proofs.Spelling.{one_more, all_shown}
+use Rattle.console.proofs.Spelling.{one_more}
 use Rattle.console.proofs.spelled.SpelledDisplay.fmt.Goals as goal
 
 pub loop-b-preserved : goal.loop-b-preserved
@@ -11,6 +11,3 @@ loop-b-preserved g c plain =
     let before = c.loop-b.invariant plain in
     has_written_of_eq g.W.Write.write_str_gives _ _ _ _ (one_more s i (search rules))
     (has_written_append g.W.Write.write_str_gives _ (spelling (take i s)) _ (spelled (get_or s i 0)) _ before (c.in_ok-write.ensures.writes before.plain refl))
-
-pub returns-clause-writes : goal.returns-clause-writes
-returns-clause-writes g c plain e = has_written_of_eq g.W.Write.write_str_gives _ _ _ _ (all_shown c.args.self.now.0.now c.loop-b.b-index (search rules)) (c.loop-b.invariant plain)

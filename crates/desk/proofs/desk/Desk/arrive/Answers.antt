@@ -1,15 +1,9 @@
-use Rattle.std.proofs.Common.{◌≡◌, length, arith, rules, sym, ◌∙◌}
+use Rattle.std.proofs.Common.{rules, sym, ◌∙◌}
 use Rattle.escape.proofs.Fronting.{too_long as stays}
-use Rattle.numbers.proofs.Texts.{none_fits, some_fits}
+use Rattle.numbers.proofs.Texts.{none_fits}
 use Rattle.desk.specs.Desks.{too_long}
 use Rattle.desk.proofs.Parts.{arrives}
 use Rattle.desk.proofs.desk.Desk.arrive.Goals as goal
-
-pub slice_bounds-arrive-end : goal.slice_bounds-arrive-end
-slice_bounds-arrive-end g c =
-    let f = some_fits _ _ _ c.in-Some.ensures.answer in
-    let same : length c.resolve.new.out ≡ length c.args.buffer.now = c.resolve.auto.out in
-    omega (arith, f.1, same)
 
 pub returns-in-Some : goal.returns-in-Some
 returns-in-Some g c = arrives _ _ _ c.in-Some.n c.arrive.result c.in-Some.ensures.answer c.in-Some.ensures.after c.arrive.ensures.does

@@ -2,7 +2,7 @@ use Rattle.std.proofs.Common.{refl, rules}
 use Rattle.std.proofs.lemmas.Result.{err_from_is_err_and}
 use Rattle.link.specs.Meanings.{state_of}
 use Rattle.link.specs.Submitting.{no_number}
-use Rattle.link.proofs.Submits.{refused, full, accepted}
+use Rattle.link.proofs.Submits.{refused, full}
 use Rattle.link.proofs.link.Link.do_submit.Goals as goal
 
 pub returns-in_default-clause-does : goal.returns-in_default-clause-does
@@ -25,11 +25,3 @@ returns-in_err-prepared-clause-does g c =
 pub returns-then-not-has_room-clause-does : goal.returns-then-not-has_room-clause-does
 returns-then-not-has_room-clause-does g c =
     (refl, full (state_of g.P.Port.meaning c.args.self.now) c.args.address.now c.args.body.now c.in-Some.number c.room-room.result.0 c.in_ok-prepared.prepared _ c.in-Some.ensures.1 c.in_ok-prepared.ensures c.room-room.ensures.room (search rules))
-
-pub returns-clause-does : goal.returns-clause-does
-returns-clause-does g c =
-    let few = c.in-Some.ensures.0 in
-    accepted (g.P.Port.meaning c.args.self.now.port) (g.P.Port.meaning c.send.new.self.port) c.args.self.now.core c.send.new.self.core
-    c.args.address.now c.args.body.now _ c.in-Some.number c.room-room.result.0 c.in_ok-prepared.prepared
-    few c.in-Some.ensures.1 c.in_ok-prepared.ensures c.room-room.ensures.room (search rules)
-    c.send.ensures.port (c.send.ensures.slots few) (c.send.ensures.recent few) c.send.ensures.link c.send.ensures.unfinished

@@ -1,12 +1,7 @@
 use Rattle.std.proofs.Common.{[]}
 use Rattle.writer.proofs.Growing.{lies_none}
-use Rattle.request.proofs.Puts.{too_long, fits}
+use Rattle.request.proofs.Puts.{fits}
 use Rattle.request.proofs.composing.Request.compose.Goals as goal
-
-pub returns-then-not-is_short : goal.returns-then-not-is_short
-returns-then-not-is_short c =
-    let h = too_long c.args.self.now.address.now c.args.self.now.body.now c.args.line.now c.args.digit c.told-line c.if-not-is_short.ensures in
-    record { answer = h.0; after = h.1 }
 
 pub returns : goal.returns
 returns c =

@@ -1,9 +1,0 @@
-use Rattle.std.proofs.Common.{refl, arith}
-use Rattle.request.proofs.Puts.{lies_put}
-use Rattle.request.proofs.composing.put.Goals as goal
-
-pub returns : goal.returns
-returns c = record {
-  end = refl;
-  lies = λ was l o. lies_put was l c.args.line.now c.args.bytes.now _ c.args.at _ c.requires c.copy_from_slice.ensures.after (omega arith) o;
-}
