@@ -11,9 +11,18 @@ const INPUT_MAX: usize = 65536;
 pub fn first_bytes(rt: &HostRuntime) -> anyhow::Result<Vec<u8>>
     ensures { IfOk result (λ bytes. vec_len bytes ≤ 65536) }
 {
-    let mut bytes = Vec::new(rt.alloc());
-    rt.stdin().take(INPUT_MAX as u64).read_to_end(&mut bytes)?;
-    // nothing is longer already; what `read_to_end` promises does not say so
-    bytes.truncate(INPUT_MAX);
+    // Each read has all the room that is left. Not `take` and `read_to_end`: their first reads are small, which loses the rest of a packet
+    // where the input keeps packets apart, and they ask for twice the memory before they see that there is enough.
+    let mut bytes = vec![in rt.alloc(); 0; INPUT_MAX]?;
+    let mut stdin = rt.stdin();
+    let mut len: usize = 0;
+    for _ in 0..INPUT_MAX {
+        let came = stdin.read(&mut bytes[len..])?;
+        if came == 0 {
+            break;
+        }
+        len += came;
+    }
+    bytes.truncate(len);
     Ok(bytes)
 }

@@ -2,3 +2,4 @@
 pub mod Lines
 pub mod Rows
 pub mod Meanings
+pub mod Shown

@@ -1,14 +1,15 @@
 // The row that is printed for a line: what the line means, with its canonical line, or why it means nothing.
-ghost use Rattle.std.specs.Prelude.{◌≡◌, true, length};
+ghost use Rattle.std.specs.Prelude.{◌≡◌, true, length, Some};
 ghost use Rattle.line.specs.Lines.{meant};
 ghost use Rattle.line.specs.Meanings.{message_of};
 ghost use Rattle.writer.specs.Canonical.{formed};
 ghost use Rattle.inspect.specs.Rows.{side_by, kind_of, row_of_read, row_for};
 ghost use Rattle.inspect.specs.Meanings.{side_said, kind_said, row_said};
+ghost use Rattle.inspect.specs.Shown.{fault_text};
 
-use console::Text;
 use line::{Fault, Message, Side, read};
 use std::fmt;
+use std::str::from_utf8;
 use writer::rewrite;
 
 // What a message is by its side and mark.
@@ -42,21 +43,35 @@ impl fmt::Display for Kind {
     }
 }
 
+// A fault by its number, its place and the layer that turned the line away; every fault of a line has a place and a layer.
+#[derive(Clone, Copy)]
+struct Turned(Fault);
+
+impl fmt::Display for Turned {
+    ghost output = { λ turned. Some (fault_text turned.0) };
+
+    fn fmt<W: fmt::Write>(&self, f: &mut fmt::Formatter<W>) -> fmt::Result {
+        let number = self.0.number();
+        let place = self.0.place().unwrap_or(0);
+        match self.0.layer() {
+            Some(layer) => write!(f, "FAULT {number} {place} {layer}"),
+            None => write!(f, "FAULT {number} {place} "),
+        }
+    }
+}
+
 impl<'a> fmt::Display for Row<'a> {
     fn fmt<W: fmt::Write>(&self, f: &mut fmt::Formatter<W>) -> fmt::Result {
         match self {
             Row::Unknown => f.write_str("?"),
             Row::Fault(fault) => {
-                let number = fault.number();
-                let place = fault.place().unwrap_or(0);
-                match fault.layer() {
-                    Some(layer) => write!(f, "FAULT {number} {place} {layer}"),
-                    None => write!(f, "FAULT {number} {place} "),
-                }
+                let turned = Turned(*fault);
+                write!(f, "{turned}")
             }
             Row::Unsendable => f.write_str("UNSENDABLE"),
             Row::Meant(kind, line) => {
-                let text = Text(line);
+                // as one text, and not `Text`, which shows byte by byte: a canonical line has bytes from 32 to 126 alone
+                let text = from_utf8(line).map_err(|_| fmt::Error)?;
                 write!(f, "{kind} {text}")
             }
         }

@@ -9,6 +9,7 @@ use Rattle.line.specs.declared.fault.Fault.TheVariants.{NoRoom}
 use Rattle.port.specs.Port.{Meaning, Written}
 use Rattle.writer.specs.Canonical.{canonical}
 use Rattle.life.specs.Link.{State, is_open, FirstFree, Put, ended_line}
+use Rattle.reader.specs.Unfinished.{part_of}
 use Rattle.numbers.specs.Ours.{ours}
 use Rattle.numbers.specs.Slots.{pending_of}
 use Rattle.numbers.specs.Ten.{slots_of}
@@ -89,7 +90,7 @@ accepted a z core new address body out n room p few free w is fits wrote slots r
         mark = w.mark;
         port = written_is a z (take (p.length + 1) out) (ended_line ours m) w.front (omega (arith, size)) wrote;
         link = link;
-        unfinished = unfinished;
+        unfinished = ap part_of unfinished;
         slots = rw (sym w.pending) slots;
         recent = recent;
       };

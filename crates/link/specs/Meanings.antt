@@ -6,6 +6,7 @@ use Rattle.line.specs.Meanings.{told, number_of, message_of}
 use Rattle.line.specs.declared.fault.Fault.{Fault}
 use Rattle.line.specs.declared.message.Message.{Message}
 use Rattle.port.specs.Port.{Meaning}
+use Rattle.reader.specs.Unfinished.{part_of}
 use Rattle.numbers.specs.Ours.{as_answer, ours}
 use Rattle.numbers.specs.Slots.{outcome_of}
 use Rattle.numbers.specs.Ten.{slots_of}
@@ -26,7 +27,7 @@ abbrev pub state : Meaning → Core → State
 state port core = record {
   port = port;
   link = core.number;
-  unfinished = core.unfinished;
+  unfinished = part_of core.unfinished;
   slots = slots_of core.numbers;
   recent = core.numbers.recent;
 }

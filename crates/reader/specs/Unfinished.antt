@@ -1,8 +1,13 @@
--- What taking bytes from a port until a line ends makes of them.
-use Rattle.std.specs.Prelude.{◌≡◌, ℕ, ◌≤◌, Bool, true, false, List, []}
+-- What the values of the code mean, and what taking bytes from a port until a line ends makes of them.
+use Rattle.std.specs.Prelude.{◌≡◌, ℕ, ◌≤◌, Bool, true, false, List, [], take}
 use Rattle.port.specs.Port.{Meaning}
 use Rattle.reader.specs.Stream.{Cut, dry_at, cut_off, first_cut}
 use Rattle.reader.specs.Cutting.{Part, bare, by_parts}
+use Rattle.reader.specs.declared.unfinished.Unfinished.{Unfinished}
+
+-- Shut, since whoever uses an unfinished line needs only what its calls say of this.
+unfoldable pub part_of : Unfinished → Part
+part_of u = record { kept = take u.len u.bytes; over = u.over }
 
 -- after a byte that ended the line p, or did not
 abbrev pub went_on : Bool → Part → List ℕ → Cut Part Part

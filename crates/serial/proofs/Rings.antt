@@ -1,5 +1,5 @@
 -- What a ring holds after bytes come in behind and go out in front, shown place by place.
-use Rattle.std.proofs.Common.{◌≡◌, ℕ, ◌+◌, ◌-◌, ◌<◌, ◌≤◌, min, List, ◌++◌, length, take, drop, ◌∙◌, arith, rules}
+use Rattle.std.proofs.Common.{◌≡◌, ℕ, ◌+◌, ◌-◌, ◌<◌, ◌≤◌, min, List, ◌++◌, length, take, drop, ap, ◌∙◌, arith, rules, length-append}
 use Rattle.std.proofs.Math.Nat.{add_assoc}
 use Rattle.std.proofs.lemmas.List.{same_lists, places, length-take-le}
 use Rattle.byte_slices.specs.Parts.{Filled}
@@ -27,6 +27,14 @@ ring_filled old mid new src head len t₁ a t₂ b n h l w₁ w₂ f₁ f₂ =
     let one = ring_run old mid src head len t₁ a n h (omega arith) (search (rules, f₁.count)) (omega arith) w₁ f₁.list in
     let two = ring_run mid new _ head (len + a) t₂ b (size ∙ n) h (omega arith) (search (rules, f₂.count)) (search (rules, places)) (rw add_assoc at w₂) f₂.list in
     rw (add_assoc len a b, all, one) at two ∙ two_parts (ring old head len) src a b all
+
+-- The first k of src came in behind.
+pub ring_put : (old new src : List ℕ) (head len k : ℕ) → k ≤ length src → ring new head (len + length (take k src)) ≡ ring old head len ++ take k src
+    → (ring new head (len + k) ≡ ring old head len ++ take k src) × (length (ring new head (len + k)) ≡ length (ring old head len) + k)
+ring_put old new src head len k m is =
+    let size : length (take k src) ≡ k = length-take-le k src m in
+    let holds : ring new head (len + k) ≡ ring old head len ++ take k src = rw size at is in
+    (holds, ap length holds ∙ length-append (ring old head len) (take k src) ∙ ap (λ n. length (ring old head len) + n) size)
 
 -- A buffer filled from a ring in two copies: first what lies before the ring's end, then the rest from its start.
 pub ring_copied : (bytes old mid new : List ℕ) (head a b : ℕ) → length bytes ≡ capacity → head < capacity → length old ≤ capacity

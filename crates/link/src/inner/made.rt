@@ -1,6 +1,7 @@
 // What a new link holds.
 ghost use Rattle.std.specs.Prelude.{◌≡◌, ℕ};
 ghost use Rattle.reader.specs.Cutting.{bare};
+ghost use Rattle.reader.specs.Unfinished.{part_of};
 ghost use Rattle.life.specs.Link.{is_free};
 ghost use Rattle.numbers.specs.Ten.{slots_of};
 
@@ -11,7 +12,7 @@ use reader::Unfinished;
 impl Core {
     pub fn new(number: u16) -> Core
         ensures link { result.number ≡ number }
-        ensures unfinished { result.unfinished ≡ bare }
+        ensures unfinished { part_of result.unfinished ≡ bare }
         ensures slots { (n : ℕ) → slots_of result.numbers n ≡ is_free }
         ensures recent { result.numbers.recent ≡ 9 }
     {

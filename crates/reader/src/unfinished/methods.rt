@@ -3,10 +3,9 @@ ghost use Rattle.std.specs.Prelude.{◌≡◌, ℕ, ◌≤◌, List, ◌∷◌, 
 ghost use Rattle.std.specs.Option.{option_copied};
 ghost use Rattle.reader.specs.Stream.{first_cut};
 ghost use Rattle.reader.specs.Cutting.{bare, longer as with_byte, whole, by_parts, is_end};
-ghost use Rattle.reader.specs.Unfinished.{went_on};
+ghost use Rattle.reader.specs.Unfinished.{part_of, went_on};
 
-use crate::unfinished::Unfinished;
-use arrayvec::ArrayVec;
+use crate::unfinished::{MOST, Unfinished};
 
 // One line, as in `inspect`: the two stand on no crate in common that knows lines of a stream.
 fn ends_line(byte: u8) -> bool
@@ -17,42 +16,53 @@ fn ends_line(byte: u8) -> bool
 
 impl Unfinished {
     pub fn new() -> Unfinished
-        ensures { result ≡ bare }
+        ensures { part_of result ≡ bare }
     {
         Unfinished {
-            bytes: ArrayVec::new(),
+            bytes: [0; MOST],
+            len: 0,
             over: false,
         }
     }
 
     // The bytes held, at most the first 1,024 of the line.
     pub fn held(&self) -> &[u8]
-        ensures bytes { result.now ≡ self.now.kept }
+        ensures bytes { result.now ≡ (part_of self.now).kept }
         ensures fits { length result.now ≤ 1024 }
     {
-        self.bytes.as_slice()
+        &self.bytes[..self.len]
+    }
+
+    // Whether more of the line came than is held.
+    pub fn over(&self) -> bool
+        ensures { result ≡ (part_of self.now).over }
+    {
+        self.over
     }
 
     // The whole line; none if more of it came than is held.
     pub fn whole(&self) -> Option<&[u8]>
-        ensures { option_copied result ≡ whole self.now }
+        ensures { option_copied result ≡ whole (part_of self.now) }
     {
         (!self.over).then(|| self.held())
     }
 
     // Lets the line go.
     pub fn clear(&mut self)
-        ensures { self.new ≡ bare }
+        ensures { part_of self.new ≡ bare }
     {
-        self.bytes.clear();
+        self.len = 0;
         self.over = false;
     }
 
     // One byte more, or that more came.
     fn push(&mut self, byte: u8)
-        ensures { self.new ≡ with_byte 1024 self.old byte }
+        ensures { part_of self.new ≡ with_byte 1024 (part_of self.old) byte }
     {
-        if self.bytes.try_push(byte).is_err() {
+        if self.len < MOST {
+            self.bytes[self.len] = byte;
+            self.len += 1;
+        } else {
             self.over = true;
         }
     }
@@ -60,13 +70,13 @@ impl Unfinished {
     // Takes the next byte of the stream. True: it ended the line, which is held until it is cleared. A flag, and not the line: a result
     // that borrows from what was lent to be written would keep its owner from knowing what is held.
     pub fn take(&mut self, byte: u8) -> bool
-        ensures { (rest : List ℕ) → first_cut by_parts self.old (byte ∷ rest) ≡ went_on result self.new rest }
+        ensures { (rest : List ℕ) → first_cut by_parts (part_of self.old) (byte ∷ rest) ≡ went_on result (part_of self.new) rest }
     {
         if !ends_line(byte) {
             self.push(byte);
             return false;
         }
-        if !self.bytes.is_empty() {
+        if self.len > 0 {
             return true;
         }
         self.clear();

@@ -1,8 +1,6 @@
 // What can be done with a queue: bytes go in and out in runs, at most two copies to a call.
-#![tactic(auto, using(crate::proofs::Rings::length_ring, crate::proofs::Rings::ring_front, crate::proofs::Rings::ring_rest))]
-
-ghost use Rattle.std.specs.Prelude.{◌≡◌, ◌+◌, ◌<◌, ◌≤◌, [], ◌++◌, length, take, drop};
-ghost use Rattle.serial.specs.Queues.{ring, Put, Got, Wrapped};
+ghost use Rattle.std.specs.Prelude.{◌≡◌, ◌+◌, ◌<◌, ◌≤◌, [], ◌++◌, length};
+ghost use Rattle.serial.specs.Queues.{ring, held, Put, Got, Wrapped};
 ghost use Rattle.serial.specs.Sizes.{capacity};
 
 use crate::queue::{PLACES, Queue};
@@ -17,7 +15,7 @@ fn wrap(n: usize) -> usize
 }
 
 // All of `src` behind the `len` bytes from `head` on: one copy up to the ring's end, and one for the rest at its start.
-// It takes the fields one by one, since a clause on a `Queue` sees only the bytes held; so does `copy_round`.
+// It takes the fields one by one, since the queue grows only once its bytes are there; so does `copy_round`.
 #[tactic(auto, using(crate::proofs::Rings::ring_filled))]
 fn put_round(bytes: &mut [u8; PLACES], head: usize, len: usize, src: &[u8])
     requires start { head < capacity }
@@ -41,7 +39,7 @@ fn copy_round(bytes: &[u8; PLACES], head: usize, dst: &mut [u8])
 
 impl Queue {
     pub fn new() -> Queue
-        ensures { result ≡ [] }
+        ensures { held result ≡ [] }
     {
         Queue {
             bytes: [0; PLACES],
@@ -51,14 +49,15 @@ impl Queue {
     }
 
     pub fn len(&self) -> usize
-        ensures value { result ≡ length self.now }
+        ensures value { result ≡ length (held self.now) }
         ensures fits { result ≤ capacity }
+        ensures field { result ≡ self.now.len }
     {
         self.len
     }
 
     pub fn empty(&mut self)
-        ensures { self.new ≡ [] }
+        ensures { held self.new ≡ [] }
     {
         self.len = 0;
     }

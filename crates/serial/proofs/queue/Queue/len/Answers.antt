@@ -1,0 +1,8 @@
+use Rattle.std.proofs.Common.{rules}
+use Rattle.serial.specs.Queues.{held}
+use Rattle.serial.proofs.Rings.{length_ring}
+use Rattle.serial.proofs.queue.Queue.len.Goals as goal
+
+pub returns : goal.returns
+unfolding held
+returns c = search (rules, length_ring)
