@@ -265,3 +265,30 @@ address_was answer s a e = go (unaddressed s) refl e
         let h = split_from s a e in
         let not_none : unaddressed a.device ≡ false = subst (λ (x : List ℕ). unaddressed x ≡ false) (append-nil a.device) (not_unaddressed a.device [] h.0) in
         record { form = rw not_none (split_was s a h); text = h.2 }
+
+-- ---- an address is short
+device_short : (s : List ℕ) → Device s → length s ≤ 13
+device_short s (by_serial t len e) = omega arith
+device_short s (by_number a b n e) = omega arith
+
+zone_short : (z : Option ℕ) → length (zone_text z) ≤ 3
+zone_short None = omega arith
+zone_short (Some z) = omega arith
+
+split_short : (s : List ℕ) (a : Address) → Split s a → length s ≤ 16
+unfolding Split
+split_short s a h = omega (arith, ap length h.2, length-append a.device (zone_text a.zone), device_short a.device h.0, zone_short a.zone)
+
+none_short : (s : List ℕ) → unaddressed s ≡ true → length s ≤ 16
+none_short [] e = omega arith
+none_short (a ∷ []) e = omega arith
+none_short (a ∷ b ∷ []) e = omega arith
+none_short (a ∷ b ∷ c ∷ s) e = never e
+
+pub address_short : (side : Side) (s : List ℕ) (a : Address) → address_of side s ≡ Some a → length s ≤ 16
+address_short command s a e = split_short s a (split_from s a e)
+address_short answer s a e = go (unaddressed s) refl e
+  where
+    go : (t : Bool) → unaddressed s ≡ t → cond t (Some (record { device = s; zone = None })) (split_device s (device_length s)) ≡ Some a → length s ≤ 16
+    go true p e = none_short s p
+    go false p e = split_short s a (split_from s a e)

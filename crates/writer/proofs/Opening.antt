@@ -1,20 +1,20 @@
 -- Lines as they are begun, added to and closed.
-use Rattle.std.proofs.Common.{◌≡◌, ℕ, suc, ◌+◌, ◌<◌, ◌≤◌, Bool, true, false, cond, leb, List, [], ◌∷◌, ◌++◌, length, get_or, Some, None, Option, sym, refl, ap, ◌∙◌, subst, append_assoc, append-nil, arith, length-append, w8, Fits}
-use Rattle.std.proofs.lemmas.Bool.{le-leb}
+use Rattle.std.proofs.Common.{◌≡◌, ◌≢◌, ℕ, suc, ◌+◌, ◌<◌, ◌≤◌, Bool, true, false, cond, leb, List, [], ◌∷◌, ◌++◌, length, get_or, is_some, Some, None, Err, Option, Result, sym, refl, ap, ◌∙◌, subst, append_assoc, append-nil, arith, length-append, w8, Fits}
+use Rattle.std.proofs.lemmas.Bool.{leb-true, le-leb}
 use Rattle.std.specs.List.{AllByRecursion}
 use Rattle.escape.specs.Spelling.{spelling}
 use Rattle.escape.proofs.Chunks.{Tame, tame_spelling}
-use Rattle.line.specs.Forms.{Side, Address, address_of, is_mark, check_of, is_first_field}
+use Rattle.line.specs.Forms.{Side, command, answer, Address, every, capital, name_byte, address_of, is_mark, check_of, is_first_field}
 use Rattle.line.specs.Lines.{Message}
 use Rattle.line.specs.Meanings.{placed}
 use Rattle.line.specs.declared.fault.Fault.{Fault}
-use Rattle.line.specs.declared.fault.Fault.TheVariants.{BadMark, FirstField}
+use Rattle.line.specs.declared.fault.Fault.TheVariants.{TooLong, BadAddress, BadMark, FirstField, ShortBuffer}
 use Rattle.writer.specs.Canonical.{in_two_digits, address_text, ended, body_text, head_text, closed, canonical, sendable}
 use Rattle.writer.specs.Laws.{Bytes}
-use Rattle.writer.specs.Writing.{address_read, begun, unclosed, Lies, Opened, Closed, line_head, line_fault, room_fault, head_fault, begin_fault}
+use Rattle.writer.specs.Writing.{address_read, begun, unclosed, Lies, Opened, Closed, line_head, refusal, line_fault, room_fault, mark_fault, first_fault, head_fault, begin_fault}
 use Rattle.writer.specs.Rewriting.{first_of_both}
 use Rattle.writer.specs.declared.head.Head.{Head}
-use Rattle.writer.proofs.Addresses.{address_was}
+use Rattle.writer.proofs.Addresses.{both, never, address_was, address_short}
 use Rattle.writer.proofs.Backs.{tame_first, reads_back}
 
 -- ---- bytes
@@ -26,7 +26,35 @@ tame_bytes : (s : List ℕ) → AllByRecursion Tame s → AllByRecursion (λ b. 
 tame_bytes [] h = tt
 tame_bytes (b ∷ s) h = (omega (arith, h.0.1), tame_bytes s h.1)
 
+-- ---- a first field is short
+pub first_short : (side : Side) (f : List ℕ) → is_first_field side f ≡ true → length f ≤ 64
+first_short command [] e = omega arith
+first_short command (a ∷ s) e =
+    let h = both (capital a) _ e in
+    let k = both (every name_byte s) (leb (length s) 63) h.1 in
+    omega (arith, leb-true (length s) 63 k.1)
+first_short answer [] e = omega arith
+first_short answer (a ∷ []) e = omega arith
+first_short answer (a ∷ b ∷ []) e = omega arith
+first_short answer (a ∷ b ∷ c ∷ []) e = omega arith
+first_short answer (a ∷ b ∷ c ∷ d ∷ s) e = never e
+
 -- ---- beginning
+-- the mark refuses a head, and else the first field
+head_by : (side : Side) (a : Address) (mark : ℕ) (first : Bool) → first_of_both (mark_fault side a mark) (first_fault a first) ≡ head_fault side a mark first
+head_by side a mark first = go (is_mark side mark)
+  where
+    go : (p : Bool) → first_of_both (cond p None (Some (BadMark (length (address_text a) + 1)))) (first_fault a first) ≡ cond p (first_fault a first) (Some (BadMark (length (address_text a) + 1)))
+    go true = refl
+    go false = refl
+
+pub mark_refuses : (side : Side) (a : Address) (mark : ℕ) (first : Bool) (f : Fault) → Some f ≡ mark_fault side a mark → Some f ≡ head_fault side a mark first
+mark_refuses side a mark first f e = ap (λ (o : Option Fault). first_of_both o (first_fault a first)) e ∙ head_by side a mark first
+
+pub first_decides : (side : Side) (a : Address) (mark : ℕ) (first : Bool) (h : Head) → (placed h.address ≡ a) × (h.mark ≡ mark) → None ≡ mark_fault side a mark → first_fault (placed h.address) first ≡ head_fault side a mark first
+first_decides side a mark first h same none =
+    ap (λ (x : Address). first_fault x first) same.0 ∙ ap (λ (o : Option Fault). first_of_both o (first_fault a first)) none ∙ head_by side a mark first
+
 -- what a head has where nothing is refused
 pub head_forms : (side : Side) (a : Address) (mark : ℕ) (first : Bool) → None ≡ head_fault side a mark first → (is_mark side mark ≡ true) × (first ≡ true)
 head_forms side a mark first = go (is_mark side mark) first
@@ -45,6 +73,13 @@ module _ (side : Side) (address first : List ℕ) (mark : ℕ) (a : Address) (re
 
   same_first : is_first_field side first ≡ true → spelling first ≡ first
   same_first e = tame_spelling first (tame_first side first e)
+
+  -- parts that have their forms make a short line, with its check
+  pub head_short : is_first_field side first ≡ true → length address + length first + 7 ≤ 87
+  head_short e = omega (arith, address_short side address a read, first_short side first e)
+
+  pub line_short : is_first_field side first ≡ true → length (head_text (address_text a) mark) + length first + 4 ≤ 87
+  line_short e = omega (arith, head_short e, ap length text, length-append (address_text a) (47 ∷ mark ∷ 47 ∷ []))
 
   -- what refuses the head, and else what refuses the length
   begin_by : (n room : ℕ) → n ≡ length (head_text (address_text a) mark) + length first + 4 → first_of_both (head_fault side a mark (is_first_field side first)) (line_fault n room) ≡ begin_fault side address mark first room
@@ -84,6 +119,31 @@ module _ (side : Side) (address first : List ℕ) (mark : ℕ) (a : Address) (re
         some = some;
         lies = subst (λ (x : List ℕ). Lies was x out n) line lies;
       })
+
+-- a line that begins is not refused for its length
+never_refused_long : (side : Side) (address first : List ℕ) (mark room : ℕ) → begin_fault side address mark first room ≢ Some TooLong
+never_refused_long side address first mark room = by_read (address_of side address) refl (is_mark side mark) (is_first_field side first) refl
+  where
+    by_room : (q : Bool) → cond q None (Some ShortBuffer) ≢ Some TooLong
+    by_room true e = let z : ◌≡◌ {A = ℕ} 0 1 = cc in absurd (omega arith)
+    by_room false e = let z : ◌≡◌ {A = ℕ} 0 1 = cc in absurd (omega arith)
+
+    formed : (a : Address) → address_of side address ≡ Some a → is_first_field side first ≡ true → room_fault (length (head_text address mark ++ ended first)) room ≢ Some TooLong
+    formed a read e =
+        let same = same_first side address first mark a read e in
+        let short : length (head_text address mark ++ ended first) + 3 ≤ 1024 =
+        omega (arith, length-append (head_text address mark) (ended first), length-append address (47 ∷ mark ∷ 47 ∷ []), length-append (spelling first) (58 ∷ []), ap length same, head_short side address first mark a read e) in
+        rw (le-leb (length (head_text address mark ++ ended first) + 3) 1024 short) (by_room (leb (length (head_text address mark ++ ended first) + 3) room))
+
+    by_read : (o : Option Address) → address_of side address ≡ o → (p q : Bool) → is_first_field side first ≡ q
+        → cond (is_some o) (cond p (cond q (room_fault (length (head_text address mark ++ ended first)) room) (Some (FirstField (length address + 3)))) (Some (BadMark (length address + 1)))) (Some BadAddress) ≢ Some TooLong
+    by_read None r p q f e = let z : ◌≡◌ {A = ℕ} 0 1 = cc in absurd (omega arith)
+    by_read (Some a) r false q f e = let z : ◌≡◌ {A = ℕ} 0 1 = cc in absurd (omega arith)
+    by_read (Some a) r true false f e = let z : ◌≡◌ {A = ℕ} 0 1 = cc in absurd (omega arith)
+    by_read (Some a) r true true f e = formed a r f e
+
+pub never_too_long : (side : Side) (address first : List ℕ) (mark room : ℕ) (r : Result (Unit {0}) Fault) → refusal r ≡ begin_fault side address mark first room → r ≢ Err TooLong
+never_too_long side address first mark room r by e = never_refused_long side address first mark room (sym by ∙ ap refusal e)
 
 -- ---- adding
 pub body_more : (fs : List (List ℕ)) (f : List ℕ) → body_text (fs ++ (f ∷ [])) ≡ body_text fs ++ ended f

@@ -96,6 +96,14 @@ abbrev pub first_given : Side → Option (Bor (List ℕ)) → Bool
 first_given side None = false
 first_given side (Some f) = is_first_field side f.now
 
+-- why no line has the mark behind the address
+abbrev pub mark_fault : Side → Address → ℕ → Option Fault
+mark_fault side address mark = cond (is_mark side mark) None (Some (BadMark (length (address_text address) + 1)))
+
+-- why no line has the first field, of which is told whether it has its form, behind the address and a mark
+abbrev pub first_fault : Address → Bool → Option Fault
+first_fault address first = cond first None (Some (FirstField (length (address_text address) + 3)))
+
 -- why no line begins with the address, the mark and a first field, of which is told whether it has its form
 abbrev pub head_fault : Side → Address → ℕ → Bool → Option Fault
 head_fault side address mark first =

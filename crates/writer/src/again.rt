@@ -76,12 +76,9 @@ pub fn rewrite(message: &Message<'_>, out: &mut [u8]) -> Result<usize, Fault>
     ensures answer { result ≡ rewrite_answer (canonical (message_of message.now)) (rewrite_fault (message_of message.now) (length out.old)) }
     ensures after { out.new ≡ rewritten (canonical (message_of message.now)) out.old (rewrite_fault (message_of message.now) (length out.old)) }
 {
-    let head = Head::new(
-        message.side(),
-        message.address(),
-        message.mark(),
-        message.raw_field(0),
-    )?;
+    let side = message.side();
+    let head = Head::new(side, message.address(), message.mark())?;
+    head.takes(side, message.raw_field(0))?;
     let body = message.body();
     let len = sum_within(head.len(), body_len(body)? + CHECK_LEN)?;
     fits(len, out.len())?;

@@ -2,7 +2,7 @@
 ghost use Rattle.std.specs.Prelude.{◌≡◌, ◌+◌, ◌^◌, ◌<◌, length, IfOk};
 ghost use Rattle.line.specs.Meanings.{side_of, placed};
 ghost use Rattle.writer.specs.Canonical.{address_text};
-ghost use Rattle.writer.specs.Writing.{refusal, head_fault, first_given, line_head};
+ghost use Rattle.writer.specs.Writing.{refusal, mark_fault, first_fault, first_given, line_head};
 
 use line::{Address, Fault, Side, is_first_field, is_mark};
 
@@ -26,25 +26,27 @@ fn address_len(address: Address<'_>) -> usize
 }
 
 impl<'a> Head<'a> {
-    // The head of a line with that first field; or why no line begins so, with the place where it would stand.
-    pub(crate) fn new(
-        side: Side,
-        address: Address<'a>,
-        mark: char,
-        first: Option<&[u8]>,
-    ) -> Result<Head<'a>, Fault>
-        ensures answer { refusal result ≡ head_fault (side_of side) (placed address.entry) mark (first_given (side_of side) first.entry) }
+    // The head of a line; or why no line has that mark, with the place where it would stand.
+    pub(crate) fn new(side: Side, address: Address<'a>, mark: char) -> Result<Head<'a>, Fault>
+        ensures answer { refusal result ≡ mark_fault (side_of side) (placed address.entry) mark }
         ensures made { IfOk result (λ h. (placed h.address ≡ placed address.entry) × (h.mark ≡ mark)) }
     {
-        let place = address_len(address);
         if !is_mark(side, mark) {
-            return Err(Fault::BadMark(place + 1));
-        }
-        if !first.is_some_and(|first| is_first_field(side, first)) {
-            return Err(Fault::FirstField(place + MARK_LEN));
+            return Err(Fault::BadMark(address_len(address) + 1));
         }
         let mark = mark as u8; // a digit, `!` or `?`, so nothing is lost
         Ok(Head { address, mark })
+    }
+
+    // Whether that first field has its form; if it has not, the place where it would stand, right behind the head.
+    // A call of its own, since the mark is judged before a first field is looked for: that goes through a message's body.
+    pub(crate) fn takes(&self, side: Side, first: Option<&[u8]>) -> Result<(), Fault>
+        ensures { refusal result ≡ first_fault (placed self.now.address) (first_given (side_of side) first.entry) }
+    {
+        if !first.is_some_and(|first| is_first_field(side, first)) {
+            return Err(Fault::FirstField(self.len()));
+        }
+        Ok(())
     }
 
     pub(crate) fn len(&self) -> usize

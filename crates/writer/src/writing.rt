@@ -1,5 +1,5 @@
 // The calls that begin and close a line.
-ghost use Rattle.std.specs.Prelude.{◌≡◌, ℕ, ◌+◌, ◌<◌, ◌≤◌, false, List, length};
+ghost use Rattle.std.specs.Prelude.{◌≡◌, ◌≢◌, ℕ, ◌+◌, ◌<◌, ◌≤◌, false, List, length, Err, OnOk};
 ghost use Rattle.line.specs.Lines.{Message};
 ghost use Rattle.line.specs.Meanings.{side_of};
 ghost use Rattle.writer.specs.Canonical.{closed};
@@ -42,10 +42,14 @@ impl<'a> Writer<'a> {
         mark: char,
         first: &[u8],
     ) -> Result<(), Fault>
-        ensures { Called self.old self.new result (begin_fault (side_of side) address.now mark first.now (length self.old.out.now)) (is_answer (side_of side)) (Opened self.old.out.now (begun (side_of side) address.now mark first.now) self.new.out.now self.new.len) }
+        ensures called { Called self.old self.new result (begin_fault (side_of side) address.now mark first.now (length self.old.out.now)) (is_answer (side_of side)) (Opened self.old.out.now (begun (side_of side) address.now mark first.now) self.new.out.now self.new.len) }
+        // parts that have their forms make a line of at most 87 bytes, with its check
+        ensures short { OnOk result (self.new.len + 3 ≤ 87) }
+        ensures never_long { result ≢ Err Fault.TooLong }
     {
         let address = address_in(side, address).ok_or(Fault::BadAddress)?;
-        let head = Head::new(side, address, mark, Some(first))?;
+        let head = Head::new(side, address, mark)?;
+        head.takes(side, Some(first))?;
         fits(head.len() + first.len() + 1 + CHECK_LEN, self.out.len())?;
         self.len = 0;
         self.push_head(head);

@@ -3,22 +3,31 @@ use Rattle.line.specs.declared.fault.Fault.TheVariants.{TooLong}
 use Rattle.line.specs.Meanings.{side_of, placed, message_of}
 use Rattle.writer.specs.Canonical.{canonical}
 use Rattle.writer.specs.Writing.{Lies, line_fault}
-use Rattle.writer.proofs.Pieces.{forms_by, canonical_is, canonical_size, refuses_form, refuses_line, refuses_long, wrote}
+use Rattle.writer.proofs.Pieces.{mark_by, first_by, canonical_is, canonical_size, refuses_form, refuses_line, refuses_long, wrote}
 use Rattle.writer.proofs.again.rewrite.Goals as goal
 
 pub returns-in_err-head : goal.returns-in_err-head
 returns-in_err-head c =
     let m = c.args.message.now in
-    let forms = forms_by m (side_of c.side.result) (placed c.address.result) c.mark.result c.raw_field.result c.side.ensures c.address.ensures c.mark.ensures c.raw_field.ensures in
-    let h = refuses_form (message_of m) c.args.out.now c.in_err-head.field-0.0 (c.in_err-head.ensures.answer ∙ forms) in
+    let form = mark_by m (side_of c.side-side.result) (placed c.address.result) c.mark.result c.side-side.ensures c.address.ensures c.mark.ensures c.in_err-head.field-0.0 c.in_err-head.ensures.answer in
+    let h = refuses_form (message_of m) c.args.out.now c.in_err-head.field-0.0 form in
     let e : c.from_residual.result ≡ Err c.in_err-head.field-0.0 = search rules in
+    record { answer = e ∙ h.answer; after = h.after }
+
+pub returns-in_err-takes : goal.returns-in_err-takes
+returns-in_err-takes c =
+    let m = c.args.message.now in
+    let forms = first_by m (side_of c.side-side.result) (placed c.address.result) c.mark.result c.raw_field.result c.side-side.ensures c.address.ensures c.mark.ensures c.raw_field.ensures in
+    let form = c.in_err-takes.ensures ∙ forms c.in_ok-head.head c.in_ok-head.ensures.made c.in_ok-head.ensures.answer in
+    let h = refuses_form (message_of m) c.args.out.now c.in_err-takes.field-0.0 form in
+    let e : c.from_residual-in_err-takes.result ≡ Err c.in_err-takes.field-0.0 = search rules in
     record { answer = e ∙ h.answer; after = h.after }
 
 pub returns-in_err-body_len : goal.returns-in_err-body_len
 returns-in_err-body_len c =
     let m = c.args.message.now in
-    let forms = forms_by m (side_of c.side.result) (placed c.address.result) c.mark.result c.raw_field.result c.side.ensures c.address.ensures c.mark.ensures c.raw_field.ensures in
-    let form = c.in_ok-head.ensures.answer ∙ forms in
+    let forms = first_by m (side_of c.side-side.result) (placed c.address.result) c.mark.result c.raw_field.result c.side-side.ensures c.address.ensures c.mark.ensures c.raw_field.ensures in
+    let form = c.in_ok-takes.ensures ∙ forms c.in_ok-head.head c.in_ok-head.ensures.made c.in_ok-head.ensures.answer in
     let head = c.in_ok-head.head in
     let same : (placed head.address ≡ (message_of m).address) × (head.mark ≡ (message_of m).mark) = (c.in_ok-head.ensures.made.0 ∙ c.address.ensures, c.in_ok-head.ensures.made.1 ∙ c.mark.ensures) in
     let size = canonical_size m form head c.body-body.result.now same c.body-body.ensures in
@@ -29,8 +38,8 @@ returns-in_err-body_len c =
 pub returns-in_err-len : goal.returns-in_err-len
 returns-in_err-len c =
     let m = c.args.message.now in
-    let forms = forms_by m (side_of c.side.result) (placed c.address.result) c.mark.result c.raw_field.result c.side.ensures c.address.ensures c.mark.ensures c.raw_field.ensures in
-    let form = c.in_ok-head.ensures.answer ∙ forms in
+    let forms = first_by m (side_of c.side-side.result) (placed c.address.result) c.mark.result c.raw_field.result c.side-side.ensures c.address.ensures c.mark.ensures c.raw_field.ensures in
+    let form = c.in_ok-takes.ensures ∙ forms c.in_ok-head.head c.in_ok-head.ensures.made c.in_ok-head.ensures.answer in
     let head = c.in_ok-head.head in
     let same : (placed head.address ≡ (message_of m).address) × (head.mark ≡ (message_of m).mark) = (c.in_ok-head.ensures.made.0 ∙ c.address.ensures, c.in_ok-head.ensures.made.1 ∙ c.mark.ensures) in
     let size = canonical_size m form head c.body-body.result.now same c.body-body.ensures in
@@ -41,8 +50,8 @@ returns-in_err-len c =
 pub returns-in_err-fits : goal.returns-in_err-fits
 returns-in_err-fits c =
     let m = c.args.message.now in
-    let forms = forms_by m (side_of c.side.result) (placed c.address.result) c.mark.result c.raw_field.result c.side.ensures c.address.ensures c.mark.ensures c.raw_field.ensures in
-    let form = c.in_ok-head.ensures.answer ∙ forms in
+    let forms = first_by m (side_of c.side-side.result) (placed c.address.result) c.mark.result c.raw_field.result c.side-side.ensures c.address.ensures c.mark.ensures c.raw_field.ensures in
+    let form = c.in_ok-takes.ensures ∙ forms c.in_ok-head.head c.in_ok-head.ensures.made c.in_ok-head.ensures.answer in
     let head = c.in_ok-head.head in
     let same : (placed head.address ≡ (message_of m).address) × (head.mark ≡ (message_of m).mark) = (c.in_ok-head.ensures.made.0 ∙ c.address.ensures, c.in_ok-head.ensures.made.1 ∙ c.mark.ensures) in
     let size = canonical_size m form head c.body-body.result.now same c.body-body.ensures in
@@ -54,8 +63,8 @@ returns-in_err-fits c =
 pub returns : goal.returns
 returns c =
     let m = c.args.message.now in
-    let forms = forms_by m (side_of c.side.result) (placed c.address.result) c.mark.result c.raw_field.result c.side.ensures c.address.ensures c.mark.ensures c.raw_field.ensures in
-    let form = c.in_ok-head.ensures.answer ∙ forms in
+    let forms = first_by m (side_of c.side-side.result) (placed c.address.result) c.mark.result c.raw_field.result c.side-side.ensures c.address.ensures c.mark.ensures c.raw_field.ensures in
+    let form = c.in_ok-takes.ensures ∙ forms c.in_ok-head.head c.in_ok-head.ensures.made c.in_ok-head.ensures.answer in
     let head = c.in_ok-head.head in
     let same : (placed head.address ≡ (message_of m).address) × (head.mark ≡ (message_of m).mark) = (c.in_ok-head.ensures.made.0 ∙ c.address.ensures, c.in_ok-head.ensures.made.1 ∙ c.mark.ensures) in
     let size = canonical_size m form head c.body-body.result.now same c.body-body.ensures in
