@@ -10,6 +10,9 @@ ghost use Rattle.line.specs.Reads.{behind, first_of};
 use crate::message::Side;
 use escape::cut;
 
+// A name has at most so many bytes behind its first.
+const LATER_MAX: usize = 63;
+
 fn is_name_byte(b: u8) -> bool
     ensures { result ≡ name_byte b }
 {
@@ -34,7 +37,7 @@ fn is_name(field: &[u8]) -> bool
     ensures { result ≡ is_name field.now }
 {
     match field {
-        [b'A'..=b'Z', later @ ..] => later.len() <= 63 && all_name_bytes(later),
+        [b'A'..=b'Z', later @ ..] => later.len() <= LATER_MAX && all_name_bytes(later),
         _ => false,
     }
 }
