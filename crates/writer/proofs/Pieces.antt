@@ -26,10 +26,10 @@ use Rattle.writer.proofs.Backs.{tame_first}
 use Rattle.writer.proofs.Opening.{mark_refuses, first_decides, head_forms, line_head_is}
 use Rattle.writer.proofs.Repeating.{body_parts}
 
-pub plain_piece : (b : ℕ) (ts : List Token) → (b ≡ 58 → ⊥) → spelled b ++ respelt ts ≡ respelt (plain b ∷ ts)
+plain_piece : (b : ℕ) (ts : List Token) → (b ≡ 58 → ⊥) → spelled b ++ respelt ts ≡ respelt (plain b ∷ ts)
 plain_piece b ts other = rw (ne_eqb b 58 other)
 
-pub colon_piece : (b : ℕ) (ts : List Token) → b ≡ 58 → respelt (plain b ∷ ts) ≡ 58 ∷ respelt ts
+colon_piece : (b : ℕ) (ts : List Token) → b ≡ 58 → respelt (plain b ∷ ts) ≡ 58 ∷ respelt ts
 colon_piece b ts e = ap (λ (c : ℕ). respelt (plain c ∷ ts)) e
 
 -- the fields and the colons between them

@@ -1,5 +1,6 @@
 // Writing a message that was read: its body is taken byte by byte, and each is spelled anew.
-ghost use Rattle.std.specs.Prelude.{◌≡◌, ◌+◌, ◌≤◌, ◌++◌, length};
+ghost use Rattle.std.specs.Prelude.{◌≡◌, ◌+◌, ◌≤◌, cond, [], ◌∷◌, ◌++◌, length};
+ghost use Rattle.escape.specs.Spelling.{spelled};
 ghost use Rattle.escape.specs.Tokens.{tokens};
 ghost use Rattle.line.specs.Meanings.{message_of};
 ghost use Rattle.writer.specs.Canonical.{closed, canonical};
@@ -33,6 +34,18 @@ fn body_len(body: &[u8]) -> Result<usize, Fault>
 }
 
 impl<'a> Writer<'a> {
+    // The colon that ends a field, or else a byte of one.
+    fn push_byte(&mut self, b: u8, ends: bool)
+        requires { HasRoom self.old (length (cond ends (58 ∷ []) (spelled b))) }
+        ensures { Pushed self.old self.new (cond ends (58 ∷ []) (spelled b)) }
+    {
+        if ends {
+            self.push(b':');
+        } else {
+            self.push_spelled(b);
+        }
+    }
+
     fn push_body(&mut self, body: &[u8])
         requires { HasRoom self.old (length (respelt (tokens body.now))) }
         ensures { Pushed self.old self.new (respelt (tokens body.now)) }
@@ -42,16 +55,12 @@ impl<'a> Writer<'a> {
         loop {
             match first_of(rest) {
                 Front::Over | Front::Broken => return,
-                Front::Plain(b':', more) => {
-                    self.push(b':'); // it ends a field
-                    rest = more;
-                }
                 Front::Plain(b, more) => {
-                    self.push_spelled(b);
+                    self.push_byte(b, b == b':');
                     rest = more;
                 }
                 Front::Escape(b, more) => {
-                    self.push_spelled(b);
+                    self.push_byte(b, false);
                     rest = more;
                 }
             }
