@@ -1,17 +1,17 @@
 -- Lines as they are begun, added to and closed.
-use Rattle.std.proofs.Common.{◌≡◌, ◌≢◌, ℕ, suc, ◌+◌, ◌<◌, ◌≤◌, Bool, true, false, cond, leb, List, [], ◌∷◌, ◌++◌, length, get_or, is_some, Some, None, Err, Option, Result, sym, refl, ap, ◌∙◌, subst, append_assoc, append-nil, arith, length-append, w8, Fits}
+use Rattle.std.proofs.Common.{◌≡◌, ◌≢◌, ℕ, suc, ◌+◌, ◌<◌, ◌≤◌, Bool, true, false, cond, leb, List, [], ◌∷◌, ◌++◌, length, get_or, is_some, Some, None, Err, Option, Result, sym, refl, ap, ◌∙◌, subst, append_assoc, append-nil, arith, length-append, w8, Fits, Bor}
 use Rattle.std.proofs.lemmas.Bool.{leb-true, le-leb}
 use Rattle.std.specs.List.{AllByRecursion}
 use Rattle.escape.specs.Spelling.{spelling}
 use Rattle.escape.proofs.Chunks.{Tame, tame_spelling}
 use Rattle.line.specs.Forms.{Side, command, answer, Address, every, capital, name_byte, address_of, is_mark, check_of, is_first_field}
 use Rattle.line.specs.Lines.{Message}
-use Rattle.line.specs.Meanings.{placed}
+use Rattle.line.specs.Meanings.{side_of, placed}
 use Rattle.line.specs.declared.fault.Fault.{Fault}
 use Rattle.line.specs.declared.fault.Fault.TheVariants.{TooLong, BadAddress, BadMark, FirstField, ShortBuffer}
 use Rattle.writer.specs.Canonical.{in_two_digits, address_text, ended, body_text, head_text, closed, canonical, sendable}
 use Rattle.writer.specs.Laws.{Bytes}
-use Rattle.writer.specs.Writing.{address_read, begun, unclosed, Lies, Opened, Closed, line_head, refusal, line_fault, room_fault, mark_fault, first_fault, head_fault, begin_fault}
+use Rattle.writer.specs.Writing.{address_read, begun, unclosed, Lies, Opened, Closed, Heads, line_head, refusal, line_fault, room_fault, mark_fault, first_given, first_fault, head_fault, begin_fault}
 use Rattle.writer.specs.Rewriting.{first_of_both}
 use Rattle.writer.specs.declared.head.Head.{Head}
 use Rattle.writer.proofs.Addresses.{both, never, address_was, address_short}
@@ -51,9 +51,13 @@ head_by side a mark first = go (is_mark side mark)
 pub mark_refuses : (side : Side) (a : Address) (mark : ℕ) (first : Bool) (f : Fault) → Some f ≡ mark_fault side a mark → Some f ≡ head_fault side a mark first
 mark_refuses side a mark first f e = ap (λ (o : Option Fault). first_of_both o (first_fault a first)) e ∙ head_by side a mark first
 
-pub first_decides : (side : Side) (a : Address) (mark : ℕ) (first : Bool) (h : Head) → (placed h.address ≡ a) × (h.mark ≡ mark) → None ≡ mark_fault side a mark → first_fault (placed h.address) first ≡ head_fault side a mark first
+pub first_decides : (side : Side) (a : Address) (mark : ℕ) (first : Option (Bor (List ℕ))) (h : Head) → Heads h side a mark → None ≡ mark_fault side a mark
+    → first_fault (placed h.address) (first_given (side_of h.side) first) ≡ head_fault side a mark (first_given side first)
 first_decides side a mark first h same none =
-    ap (λ (x : Address). first_fault x first) same.0 ∙ ap (λ (o : Option Fault). first_of_both o (first_fault a first)) none ∙ head_by side a mark first
+    ap (λ (x : Side). first_fault (placed h.address) (first_given x first)) same.side_is
+    ∙ ap (λ (x : Address). first_fault x (first_given side first)) same.address_is
+    ∙ ap (λ (o : Option Fault). first_of_both o (first_fault a (first_given side first))) none
+    ∙ head_by side a mark (first_given side first)
 
 -- what a head has where nothing is refused
 pub head_forms : (side : Side) (a : Address) (mark : ℕ) (first : Bool) → None ≡ head_fault side a mark first → (is_mark side mark ≡ true) × (first ≡ true)
@@ -64,8 +68,8 @@ head_forms side a mark first = go (is_mark side mark) first
     go true false e = let z : ◌≡◌ {A = ℕ} 0 1 = cc in absurd (omega arith)
     go false q e = let z : ◌≡◌ {A = ℕ} 0 1 = cc in absurd (omega arith)
 
-pub line_head_is : (h : Head) (a : Address) (mark : ℕ) → (placed h.address ≡ a) × (h.mark ≡ mark) → line_head h ≡ head_text (address_text a) mark
-line_head_is h a mark same = ap (λ (x : Address). head_text (address_text x) h.mark) same.0 ∙ ap (λ (k : ℕ). head_text (address_text a) k) same.1
+pub line_head_is : (h : Head) (side : Side) (a : Address) (mark : ℕ) → Heads h side a mark → line_head h ≡ head_text (address_text a) mark
+line_head_is h side a mark same = ap (λ (x : Address). head_text (address_text x) h.mark) same.address_is ∙ ap (λ (k : ℕ). head_text (address_text a) k) same.mark_is
 
 module _ (side : Side) (address first : List ℕ) (mark : ℕ) (a : Address) (read : address_of side address ≡ Some a) where
   text : address_text a ≡ address
@@ -102,14 +106,14 @@ module _ (side : Side) (address first : List ℕ) (mark : ℕ) (a : Address) (re
   pub length_decides : (n room : ℕ) → None ≡ head_fault side a mark (is_first_field side first) → n ≡ length (head_text (address_text a) mark) + length first + 4 → line_fault n room ≡ begin_fault side address mark first room
   length_decides n room none size = ap (λ (o : Option Fault). first_of_both o (line_fault n room)) none ∙ begin_by n room size
 
-  pub opened : (was out : List ℕ) (n : ℕ) (h : Head) → (placed h.address ≡ a) × (h.mark ≡ mark) → None ≡ head_fault side a mark (is_first_field side first) → 0 < n → Lies was ((line_head h ++ first) ++ (58 ∷ [])) out n
+  pub opened : (was out : List ℕ) (n : ℕ) (h : Head) → Heads h side a mark → None ≡ head_fault side a mark (is_first_field side first) → 0 < n → Lies was ((line_head h ++ first) ++ (58 ∷ [])) out n
       → Opened was (begun side address mark first) out n
   unfolding begun
   opened was out n h same none some lies =
       let form = head_forms side a mark (is_first_field side first) none in
       let line : (line_head h ++ first) ++ (58 ∷ []) ≡ head_text (address_text a) mark ++ (ended first ++ []) =
       append_assoc (line_head h) first (58 ∷ [])
-      ∙ ap (λ (x : List ℕ). x ++ (first ++ (58 ∷ []))) (line_head_is h a mark same)
+      ∙ ap (λ (x : List ℕ). x ++ (first ++ (58 ∷ []))) (line_head_is h side a mark same)
       ∙ ap (λ (x : List ℕ). head_text (address_text a) mark ++ (x ++ (58 ∷ []))) (sym (same_first form.1))
       ∙ ap (λ (x : List ℕ). head_text (address_text a) mark ++ x) (sym (append-nil (ended first))) in
       subst (λ (o : Option Address). Opened was (record { side = side; address = address_read o; mark = mark; fields = first ∷ [] }) out n) (sym read)

@@ -7,9 +7,9 @@ use Rattle.escape.proofs.Opening.{tokens_plain}
 use Rattle.escape.proofs.ByTokens.{tokens_escape, by_tokens}
 use Rattle.escape.proofs.Walking.{parts_other, parts_here, ahead_none}
 use Rattle.escape.proofs.Chunks.{chunk_tame, chunk_means, at_colon}
-use Rattle.line.specs.Forms.{Side, Address, check_of, is_first_field}
+use Rattle.line.specs.Forms.{Side, check_of, is_first_field}
 use Rattle.line.specs.Lines.{Message, fields_of}
-use Rattle.line.specs.Meanings.{placed, body_fields, message_of}
+use Rattle.line.specs.Meanings.{side_of, placed, body_fields, message_of}
 use Rattle.line.specs.Fields.{body_of, raw_fields}
 use Rattle.line.specs.Reads.{behind}
 use Rattle.std.specs.List.{slice_get}
@@ -18,12 +18,12 @@ use Rattle.line.proofs.Indices.{message_fields}
 use Rattle.line.specs.declared.fault.Fault.{Fault}
 use Rattle.line.specs.declared.fault.Fault.TheVariants.{TooLong}
 use Rattle.writer.specs.Canonical.{in_two_digits, address_text, ended, body_text, head_text, closed, canonical, first_formed}
-use Rattle.writer.specs.Writing.{Lies, line_head, first_given, mark_fault, first_fault, head_fault, line_fault}
+use Rattle.writer.specs.Writing.{Lies, Heads, line_head, first_given, mark_fault, first_fault, head_fault, line_fault}
 use Rattle.writer.specs.declared.head.Head.{Head}
 use Rattle.writer.specs.Rewriting.{forms_fault, first_of_both, rewrite_fault, rewrite_answer, rewritten, respelt}
 use Rattle.writer.proofs.Addresses.{never}
 use Rattle.writer.proofs.Backs.{tame_first}
-use Rattle.writer.proofs.Opening.{mark_refuses, first_decides, head_forms, line_head_is}
+use Rattle.writer.proofs.Opening.{first_decides, head_forms, line_head_is}
 use Rattle.writer.proofs.Repeating.{body_parts}
 
 plain_piece : (b : ℕ) (ts : List Token) → (b ≡ 58 → ⊥) → spelled b ++ respelt ts ≡ respelt (plain b ∷ ts)
@@ -119,31 +119,15 @@ first_is side m o e = go (fields_of (body_of m)) o e ∙ ap (first_formed side) 
     go (Some f) None e = let z : ◌≡◌ {A = ℕ} 0 1 = cc in absurd (omega arith)
     go (Some f) (Some r) e = let s : r.now ≡ f.0 = cc in ap (is_first_field side) s
 
--- the mark refuses the form, and else the first field
-pub mark_by : (m : Held) (side : Side) (a : Address) (k : ℕ) → side ≡ (message_of m).side → a ≡ (message_of m).address → k ≡ (message_of m).mark
-    → (f : Fault) → Some f ≡ mark_fault side a k → Some f ≡ forms_fault (message_of m)
-mark_by m side a k es ea ek f e =
-    let same =
-    ap (λ (x : Side). mark_fault x a k) es
-    ∙ ap (λ (x : Address). mark_fault (message_of m).side x k) ea
-    ∙ ap (λ (x : ℕ). mark_fault (message_of m).side (message_of m).address x) ek in
-    mark_refuses (message_of m).side (message_of m).address (message_of m).mark (first_formed (message_of m).side (message_of m).fields) f (e ∙ same)
-
-pub forms_by : (m : Held) (side : Side) (a : Address) (k : ℕ) (o : Option (Bor (List ℕ))) → side ≡ (message_of m).side → a ≡ (message_of m).address → k ≡ (message_of m).mark
-    → behind o ≡ slice_get (raw_fields (fields_of (body_of m))) 0 → head_fault side a k (first_given side o) ≡ forms_fault (message_of m)
-forms_by m side a k o es ea ek e =
-    ap (λ (x : Side). head_fault x a k (first_given x o)) es
-    ∙ ap (λ (x : Address). head_fault (message_of m).side x k (first_given (message_of m).side o)) ea
-    ∙ ap (λ (x : ℕ). head_fault (message_of m).side (message_of m).address x (first_given (message_of m).side o)) ek
-    ∙ ap (head_fault (message_of m).side (message_of m).address (message_of m).mark) (first_is (message_of m).side m o e)
-
-pub first_by : (m : Held) (side : Side) (a : Address) (k : ℕ) (o : Option (Bor (List ℕ))) → side ≡ (message_of m).side → a ≡ (message_of m).address → k ≡ (message_of m).mark
-    → behind o ≡ slice_get (raw_fields (fields_of (body_of m))) 0 → (h : Head) → (placed h.address ≡ a) × (h.mark ≡ k) → None ≡ mark_fault side a k
-    → first_fault (placed h.address) (first_given side o) ≡ forms_fault (message_of m)
-first_by m side a k o es ea ek e h same none = first_decides side a k (first_given side o) h same none ∙ forms_by m side a k o es ea ek e
+-- the first field decides where the mark refuses nothing
+pub first_by : (m : Held) (first : Option (Bor (List ℕ))) (h : Head) → Heads h (message_of m).side (message_of m).address (message_of m).mark → behind first ≡ slice_get (raw_fields (fields_of (body_of m))) 0
+    → None ≡ mark_fault (message_of m).side (message_of m).address (message_of m).mark → first_fault (placed h.address) (first_given (side_of h.side) first) ≡ forms_fault (message_of m)
+first_by m first h same e none =
+    let n = message_of m in
+    first_decides n.side n.address n.mark first h same none ∙ ap (head_fault n.side n.address n.mark) (first_is n.side m first e)
 
 -- the canonical line of a message, from its head and its body
-module _ (m : Held) (form : None ≡ forms_fault (message_of m)) (h : Head) (body : List ℕ) (same : (placed h.address ≡ (message_of m).address) × (h.mark ≡ (message_of m).mark)) (eb : body ≡ body_of m) where
+module _ (m : Held) (form : None ≡ forms_fault (message_of m)) (h : Head) (body : List ℕ) (same : Heads h (message_of m).side (message_of m).address (message_of m).mark) (eb : body ≡ body_of m) where
   pub canonical_is : canonical (message_of m) ≡ closed (line_head h ++ respelt (tokens body))
   canonical_is =
       let side = (message_of m).side in
@@ -151,7 +135,7 @@ module _ (m : Held) (form : None ≡ forms_fault (message_of m)) (h : Head) (bod
       let first : first_formed side (body_fields (fields_of (body_of m))) ≡ true = subst (λ (fs : List (List ℕ)). first_formed side fs ≡ true) (message_fields m) forms.1 in
       let text : body_text (message_of m).fields ≡ respelt (tokens body) = ap body_text (message_fields m) ∙ respelt_body side (body_of m) first ∙ ap (λ (b : List ℕ). respelt (tokens b)) (sym eb) in
       ap (λ (x : List ℕ). closed (head_text (address_text (message_of m).address) (message_of m).mark ++ x)) text
-      ∙ ap (λ (x : List ℕ). closed (x ++ respelt (tokens body))) (sym (line_head_is h (message_of m).address (message_of m).mark same))
+      ∙ ap (λ (x : List ℕ). closed (x ++ respelt (tokens body))) (sym (line_head_is h side (message_of m).address (message_of m).mark same))
 
   pub canonical_size : length (canonical (message_of m)) ≡ length (line_head h) + length (respelt (tokens body)) + 3
   canonical_size =

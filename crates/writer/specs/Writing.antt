@@ -3,7 +3,7 @@ use Rattle.std.specs.Prelude.{◌≡◌, ℕ, ◌+◌, ◌<◌, ◌≤◌, Bool,
 use Rattle.std.specs.Borrow.{Bor}
 use Rattle.line.specs.Forms.{Side, command, answer, Address, address_of, is_mark, is_first_field}
 use Rattle.line.specs.Lines.{Message, meant, reading}
-use Rattle.line.specs.Meanings.{placed}
+use Rattle.line.specs.Meanings.{side_of, placed}
 use Rattle.line.specs.declared.fault.Fault.{Fault}
 use Rattle.line.specs.declared.fault.Fault.TheVariants.{TooLong, BadAddress, BadMark, FirstField, ShortBuffer}
 use Rattle.writer.specs.Canonical.{address_text, ended, body_text, head_text, canonical, formed, sendable}
@@ -67,6 +67,12 @@ pub record Pushed (before after : Writer) (bytes : List ℕ) : Type 0 where
   pub room : length after.out.now ≡ length before.out.now
   pub lies : (was l : List ℕ) → Lies was l before.out.now before.len → Lies was (l ++ bytes) after.out.now after.len
   pub lender : after.out.ghost_name ≡ before.out.ghost_name
+
+-- a head is that of a line of the side, with the address and the mark
+pub record Heads (h : Head) (side : Side) (address : Address) (mark : ℕ) : Type 0 where
+  pub side_is : side_of h.side ≡ side
+  pub address_is : placed h.address ≡ address
+  pub mark_is : h.mark ≡ mark
 
 -- how a line begins
 abbrev pub line_head : Head → List ℕ

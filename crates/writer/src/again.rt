@@ -85,9 +85,8 @@ pub fn rewrite(message: &Message<'_>, out: &mut [u8]) -> Result<usize, Fault>
     ensures answer { result ≡ rewrite_answer (canonical (message_of message.now)) (rewrite_fault (message_of message.now) (length out.old)) }
     ensures after { out.new ≡ rewritten (canonical (message_of message.now)) out.old (rewrite_fault (message_of message.now) (length out.old)) }
 {
-    let side = message.side();
-    let head = Head::new(side, message.address(), message.mark())?;
-    head.takes(side, message.raw_field(0))?;
+    let head = Head::of(message)?;
+    head.takes(message.raw_field(0))?;
     let body = message.body();
     let len = sum_within(head.len(), body_len(body)? + CHECK_LEN)?;
     fits(len, out.len())?;

@@ -49,7 +49,7 @@ impl<'a> Writer<'a> {
     {
         let address = address_in(side, address).ok_or(Fault::BadAddress)?;
         let head = Head::new(side, address, mark)?;
-        head.takes(side, Some(first))?;
+        head.takes(Some(first))?;
         fits(head.len() + first.len() + 1 + CHECK_LEN, self.out.len())?;
         self.len = 0;
         self.push_head(head);

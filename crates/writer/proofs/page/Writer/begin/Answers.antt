@@ -21,7 +21,7 @@ returns-in_err-takes-clause-called c =
     let side = side_of c.args.side in
     let a = placed c.in_ok-address.address in
     let read : address_of side c.args.address.now ≡ Some a = sym c.address_in.ensures ∙ ap (option_map placed) c.in_ok-address.ensures.ok_part in
-    let why = c.in_err-takes.ensures ∙ first_decides side a c.args.mark (is_first_field side c.args.first.now) c.in_ok-head.head c.in_ok-head.ensures.made c.in_ok-head.ensures.answer in
+    let why = c.in_err-takes.ensures ∙ first_decides side a c.args.mark (Some c.args.first) c.in_ok-head.head c.in_ok-head.ensures.made c.in_ok-head.ensures.answer in
     let e = head_refused side c.args.address.now c.args.first.now c.args.mark a read c.in_err-takes.field-0.0 (length c.args.self.now.out.now) why in
     search rules
 
@@ -30,8 +30,8 @@ returns-in_err-fits c =
     let side = side_of c.args.side in
     let a = placed c.in_ok-address.address in
     let read : address_of side c.args.address.now ≡ Some a = sym c.address_in.ensures ∙ ap (option_map placed) c.in_ok-address.ensures.ok_part in
-    let none = c.in_ok-takes.ensures ∙ first_decides side a c.args.mark (is_first_field side c.args.first.now) c.in_ok-head.head c.in_ok-head.ensures.made c.in_ok-head.ensures.answer in
-    let size = c.len.ensures.text ∙ ap length (line_head_is c.in_ok-head.head a c.args.mark c.in_ok-head.ensures.made) in
+    let none = c.in_ok-takes.ensures ∙ first_decides side a c.args.mark (Some c.args.first) c.in_ok-head.head c.in_ok-head.ensures.made c.in_ok-head.ensures.answer in
+    let size = c.len.ensures.text ∙ ap length (line_head_is c.in_ok-head.head side a c.args.mark c.in_ok-head.ensures.made) in
     let e = c.in_err-fits.ensures ∙ length_decides side c.args.address.now c.args.first.now c.args.mark a read (c.len.result + length c.args.first.now + 1 + 3) (length c.args.self.now.out.now) none (omega arith) in
     let is : c.from_residual-in_err-fits.result ≡ Err c.in_err-fits.field-0.0 = search rules in
     record { called = search rules; short = search rules; never_long = never_too_long side c.args.address.now c.args.first.now c.args.mark (length c.args.self.now.out.now) _ (ap refusal is ∙ e) }
@@ -42,8 +42,8 @@ returns c =
     let a = placed c.in_ok-address.address in
     let was = c.args.self.now.out.now in
     let read : address_of side c.args.address.now ≡ Some a = sym c.address_in.ensures ∙ ap (option_map placed) c.in_ok-address.ensures.ok_part in
-    let none = c.in_ok-takes.ensures ∙ first_decides side a c.args.mark (is_first_field side c.args.first.now) c.in_ok-head.head c.in_ok-head.ensures.made c.in_ok-head.ensures.answer in
-    let size = c.len.ensures.text ∙ ap length (line_head_is c.in_ok-head.head a c.args.mark c.in_ok-head.ensures.made) in
+    let none = c.in_ok-takes.ensures ∙ first_decides side a c.args.mark (Some c.args.first) c.in_ok-head.head c.in_ok-head.ensures.made c.in_ok-head.ensures.answer in
+    let size = c.len.ensures.text ∙ ap length (line_head_is c.in_ok-head.head side a c.args.mark c.in_ok-head.ensures.made) in
     let answer = c.in_ok-fits.ensures ∙ length_decides side c.args.address.now c.args.first.now c.args.mark a read (c.len.result + length c.args.first.now + 1 + 3) (length was) none (omega arith) in
     let forms = head_forms side a c.args.mark (is_first_field side c.args.first.now) none in
     record {
