@@ -27,7 +27,7 @@ lies_put was l out bs ys at k h same size o =
       room = ap length held ∙ length-append (l ++ bs) rest ∙ omega (arith, length-drop (length (l ++ bs)) was, o.room);
     }
 
-in_two : (n : ℕ) → n < 100 → in_digits 2 n ≡ in_two_digits n
+pub in_two : (n : ℕ) → n < 100 → in_digits 2 n ≡ in_two_digits n
 unfolding in_digits
 in_two n h =
     let tens : n / 10 % 10 ≡ n / 10 = omega arith in
@@ -35,12 +35,10 @@ in_two n h =
     cc
 
 -- the slash, and behind it the two digits of what was summed
-pub lies_checked : (was l out new ys : List ℕ) (at n s : ℕ) → ys ≡ in_digits 2 s → s ≡ check_of (take at out) → Lies was (l ++ (47 ∷ [])) out at → Lies was ((l ++ (47 ∷ [])) ++ ys) new n → Lies was (closed l) new n
-lies_checked was l out new ys at n s digits e o done =
-    let small : s < 100 = omega arith in
+pub lies_checked : (was l out new ys : List ℕ) (at n : ℕ) → ys ≡ in_two_digits (check_of (take at out)) → Lies was (l ++ (47 ∷ [])) out at → Lies was ((l ++ (47 ∷ [])) ++ ys) new n → Lies was (closed l) new n
+lies_checked was l out new ys at n two o done =
     let line : take at out ≡ l ++ (47 ∷ []) = ap (take at) o.held ∙ take_at (l ++ (47 ∷ [])) _ at (sym o.len) in
-    let is : s ≡ check_of (l ++ (47 ∷ [])) = e ∙ ap check_of line in
-    let text : (l ++ (47 ∷ [])) ++ ys ≡ closed l = ap (λ (x : List ℕ). (l ++ (47 ∷ [])) ++ x) (digits ∙ in_two s small) ∙ append_assoc l (47 ∷ []) (in_two_digits s) ∙ ap (λ (k : ℕ). l ++ (47 ∷ in_two_digits k)) is in
+    let text : (l ++ (47 ∷ [])) ++ ys ≡ closed l = ap (λ (x : List ℕ). (l ++ (47 ∷ [])) ++ x) two ∙ append_assoc l (47 ∷ []) (in_two_digits (check_of (take at out))) ∙ ap (λ (x : List ℕ). l ++ (47 ∷ in_two_digits (check_of x))) line in
     subst (λ (x : List ℕ). Lies was x new n) text done
 
 -- ---- the whole line

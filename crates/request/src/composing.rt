@@ -1,7 +1,8 @@
 // A request, and the line that it is judged by, put together at the front of a buffer.
 ghost use Rattle.std.specs.Prelude.{◌≡◌, ℕ, ◌+◌, ◌≤◌, List, [], ◌∷◌, ◌++◌, length, nat_le};
 ghost use Rattle.escape.specs.Resolving.{fitting, written};
-ghost use Rattle.writer.specs.Canonical.{closed};
+ghost use Rattle.line.specs.Forms.{check_of};
+ghost use Rattle.writer.specs.Canonical.{in_two_digits, closed};
 ghost use Rattle.writer.specs.Writing.{Lies};
 ghost use Rattle.request.specs.Requests.{composed};
 
@@ -37,8 +38,16 @@ fn put_check(line: &mut [u8], at: usize) -> usize
     ensures { (was l : List ℕ) → Lies was l line.old at → Lies was (closed l) line.new result }
 {
     let at = put(line, at, b"/");
-    let check = check_sum(&line[..at]);
-    put(line, at, &digits::<2>(u32::from(check)))
+    let check = check_digits(&line[..at]);
+    put(line, at, &check)
+}
+
+// The check of a line that goes up to its third slash.
+#[tactic(auto, using(crate::proofs::Puts::in_two))]
+fn check_digits(line: &[u8]) -> [u8; 2]
+    ensures { result ≡ in_two_digits (check_of line.now) }
+{
+    digits::<2>(u32::from(check_sum(line)))
 }
 
 impl Request<'_> {

@@ -10,7 +10,7 @@ use Rattle.line.specs.declared.fault.Fault.{Fault}
 use Rattle.line.specs.declared.fault.Fault.TheVariants.{ShortBuffer}
 use Rattle.writer.specs.Canonical.{ended, body_text, head_text, address_text, is_address, first_formed}
 use Rattle.writer.specs.Laws.{Bytes}
-use Rattle.writer.specs.Writing.{Lies, Opened, Called, unclosed, with_field, with_fields, line_fault, room_fault, add_fault, all_fault, behind_all}
+use Rattle.writer.specs.Writing.{Lies, Opened, Called, unclosed, with_field, with_fields, Fitted, refusal, line_fault, room_fault, add_fault, all_fault, behind_all}
 use Rattle.writer.specs.declared.page.Writer.{Writer}
 use Rattle.writer.proofs.Addresses.{both, never}
 use Rattle.writer.proofs.Opening.{body_more, bytes_more}
@@ -65,6 +65,10 @@ added_all was out new n k m fs hb some o lies =
     }
 
 -- ---- refusals
+-- of the same length, and the same room
+pub fault_of : {n room : ℕ} {r : Result (Unit {0}) Fault} → Fitted n room r → (k left : ℕ) → n ≡ k → room ≡ left → refusal r ≡ line_fault k left
+fault_of {n = n} {room = room} fitted k left e f = fitted.fault ∙ ap (λ (x : ℕ). line_fault x room) e ∙ ap (λ (x : ℕ). line_fault k x) f
+
 module _ (n room : ℕ) (fs : List (List ℕ)) (some : 0 < n) where
   by_size : all_fault n fs room ≡ room_fault (n + length (body_text fs)) room
   by_size = rw (ne_eqb n 0 (λ e. omega arith))

@@ -30,12 +30,11 @@ lies_put was l out bs ys at k h same size o =
     }
 
 -- the slash, and behind it the two digits of what was summed
-pub lies_checked : (was l out new ys : List ℕ) (at n s : ℕ) → ys ≡ in_two_digits s → at ≡ length (l ++ (47 ∷ [])) → s ≡ check_of (take at out) → Lies was (l ++ (47 ∷ [])) out at
-    → Lies was ((l ++ (47 ∷ [])) ++ ys) new n → Lies was (closed l) new n
-lies_checked was l out new ys at n s two len e o done =
+pub lies_checked : (was l out new ys : List ℕ) (at n : ℕ) → ys ≡ in_two_digits (check_of (take at out)) → at ≡ length (l ++ (47 ∷ [])) → Lies was (l ++ (47 ∷ [])) out at → Lies was ((l ++ (47 ∷ [])) ++ ys) new n
+    → Lies was (closed l) new n
+lies_checked was l out new ys at n two len o done =
     let line : take at out ≡ l ++ (47 ∷ []) = ap (take at) o.held ∙ take_at (l ++ (47 ∷ [])) _ at (sym len) in
-    let is : s ≡ check_of (l ++ (47 ∷ [])) = e ∙ ap check_of line in
-    let text : (l ++ (47 ∷ [])) ++ ys ≡ closed l = ap (λ (x : List ℕ). (l ++ (47 ∷ [])) ++ x) two ∙ append_assoc l (47 ∷ []) (in_two_digits s) ∙ ap (λ (k : ℕ). l ++ (47 ∷ in_two_digits k)) is in
+    let text : (l ++ (47 ∷ [])) ++ ys ≡ closed l = ap (λ (x : List ℕ). (l ++ (47 ∷ [])) ++ x) two ∙ append_assoc l (47 ∷ []) (in_two_digits (check_of (take at out))) ∙ ap (λ (x : List ℕ). l ++ (47 ∷ in_two_digits (check_of x))) line in
     subst (λ (x : List ℕ). Lies was x new n) text done
 
 -- ---- bytes pushed one after another

@@ -93,6 +93,10 @@ refusal (Err f) = Some f
 abbrev pub line_fault : ℕ → ℕ → Option Fault
 line_fault n room = cond (nat_le n 1024) (cond (nat_le n room) None (Some ShortBuffer)) (Some TooLong)
 
+-- whether a whole line of n bytes is short enough, and goes into the buffer, and why not
+pub record Fitted (n room : ℕ) (result : Result (Unit {0}) Fault) : Type 0 where
+  pub fault : refusal result ≡ line_fault n room
+
 -- a line of n bytes, to which the check is still to come
 abbrev pub room_fault : ℕ → ℕ → Option Fault
 room_fault n room = line_fault (n + 3) room

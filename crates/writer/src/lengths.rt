@@ -2,7 +2,7 @@
 ghost use Rattle.std.specs.Prelude.{◌≡◌, ◌+◌, length};
 ghost use Rattle.escape.specs.Spelling.{spelling};
 ghost use Rattle.writer.specs.Canonical.{body_text};
-ghost use Rattle.writer.specs.Writing.{Measured, refusal, line_fault, behind_all};
+ghost use Rattle.writer.specs.Writing.{Measured, Fitted, behind_all};
 
 use crate::spelled::spelled_len;
 use line::{Fault, LINE_MAX};
@@ -45,7 +45,7 @@ pub(crate) fn fields_len(fields: &[&[u8]]) -> Result<usize, Fault>
 
 // Whether a whole line of `len` bytes is short enough, and goes into a buffer of `room` bytes.
 pub(crate) fn fits(len: usize, room: usize) -> Result<(), Fault>
-    ensures { refusal result ≡ line_fault len room }
+    ensures { Fitted len room result }
 {
     if len > LINE_MAX {
         return Err(Fault::TooLong);

@@ -5,6 +5,7 @@ ghost use Rattle.escape.specs.Spelling.{in_digits, spelled};
 use numeral::digits;
 
 // A backslash, `d`, and the byte's number in three digits.
+#[tactic(auto, using(crate::proofs::Digits::in_three))]
 pub(crate) fn numbered(b: u8) -> [u8; 5]
     ensures { result ≡ in_digits b }
 {

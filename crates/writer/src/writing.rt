@@ -1,8 +1,9 @@
 // The calls that begin and close a line.
 ghost use Rattle.std.specs.Prelude.{◌≡◌, ◌≢◌, ℕ, ◌+◌, ◌<◌, ◌≤◌, false, List, length, Err, OnOk};
+ghost use Rattle.line.specs.Forms.{check_of};
 ghost use Rattle.line.specs.Lines.{Message};
 ghost use Rattle.line.specs.Meanings.{side_of};
-ghost use Rattle.writer.specs.Canonical.{closed};
+ghost use Rattle.writer.specs.Canonical.{in_two_digits, closed};
 ghost use Rattle.writer.specs.Writing.{is_answer, Lies, Opened, Closed, Called, begun, begin_fault};
 
 use crate::head::Head;
@@ -87,6 +88,14 @@ fn end(out: &mut [u8], len: usize) -> usize
         return 0;
     }
     let at = put(out, len, b"/");
-    let check = digits::<2>(u32::from(check_sum(&out[..at])));
+    let check = check_digits(&out[..at]);
     put(out, at, &check)
+}
+
+// The check of a line that goes up to its third slash.
+#[tactic(auto, using(crate::proofs::Digits::in_two))]
+fn check_digits(line: &[u8]) -> [u8; 2]
+    ensures { result ≡ in_two_digits (check_of line.now) }
+{
+    digits::<2>(u32::from(check_sum(line)))
 }

@@ -1,9 +1,10 @@
-use Rattle.std.proofs.Common.{◌≡◌, ℕ, List, Err, length, sym, ap, ◌∙◌, subst, arith, rules}
+use Rattle.std.proofs.Common.{◌≡◌, ℕ, List, Err, length, sym, ◌∙◌, subst, arith, rules}
 use Rattle.line.specs.declared.fault.Fault.TheVariants.{TooLong}
 use Rattle.line.specs.Meanings.{message_of}
 use Rattle.writer.specs.Canonical.{first_formed, canonical}
-use Rattle.writer.specs.Writing.{Lies, line_fault}
+use Rattle.writer.specs.Writing.{Lies}
 use Rattle.writer.proofs.Opening.{mark_refuses}
+use Rattle.writer.proofs.Fields.{fault_of}
 use Rattle.writer.proofs.Pieces.{first_by, canonical_is, canonical_size, refuses_form, refuses_line, refuses_long, wrote}
 use Rattle.writer.proofs.again.rewrite.Goals as goal
 
@@ -58,7 +59,7 @@ returns-in_err-fits c =
     let same = c.in_ok-head.ensures.made in
     let size = canonical_size m form head c.body-body.result.now same c.body-body.ensures in
     let len : c.in_ok-len.len ≡ length (canonical (message_of m)) = omega (arith, size, c.len.ensures.text, c.in_ok-body_len.ensures, c.in_ok-len.ensures) in
-    let h = refuses_line (message_of m) c.args.out.now form c.in_err-fits.field-0.0 (c.in_err-fits.ensures ∙ ap (λ (k : ℕ). line_fault k (length c.args.out.now)) len) in
+    let h = refuses_line (message_of m) c.args.out.now form c.in_err-fits.field-0.0 (fault_of c.in_err-fits.ensures (length (canonical (message_of m))) (length c.args.out.now) len (omega arith)) in
     let e : c.from_residual-in_err-fits.result ≡ Err c.in_err-fits.field-0.0 = search rules in
     record { answer = e ∙ h.answer; after = h.after }
 
@@ -71,6 +72,6 @@ returns c =
     let same = c.in_ok-head.ensures.made in
     let size = canonical_size m form head c.body-body.result.now same c.body-body.ensures in
     let len : c.in_ok-len.len ≡ length (canonical (message_of m)) = omega (arith, size, c.len.ensures.text, c.in_ok-body_len.ensures, c.in_ok-len.ensures) in
-    let h = wrote (message_of m) c.args.out.now form c.put_line.new.out c.put_line.result (c.in_ok-fits.ensures ∙ ap (λ (k : ℕ). line_fault k (length c.args.out.now)) len)
+    let h = wrote (message_of m) c.args.out.now form c.put_line.new.out c.put_line.result (fault_of c.in_ok-fits.ensures (length (canonical (message_of m))) (length c.args.out.now) len (omega arith))
     (subst (λ (x : List ℕ). Lies c.args.out.now x c.put_line.new.out c.put_line.result) (sym (canonical_is m form head c.body-body.result.now same c.body-body.ensures)) c.put_line.ensures) in
     record { answer = h.answer; after = h.after }

@@ -4,6 +4,7 @@ use Rattle.line.specs.Forms.{address_of, is_first_field}
 use Rattle.line.specs.Meanings.{side_of, placed}
 use Rattle.writer.specs.Writing.{refusal}
 use Rattle.writer.proofs.Growing.{lies_none}
+use Rattle.writer.proofs.Fields.{fault_of}
 use Rattle.writer.proofs.Opening.{mark_refuses, first_decides, head_forms, line_head_is, line_short, head_refused, length_decides, opened, never_too_long}
 use Rattle.writer.proofs.page.Writer.begin.Goals as goal
 
@@ -32,7 +33,9 @@ returns-in_err-fits c =
     let read : address_of side c.args.address.now ≡ Some a = sym c.address_in.ensures ∙ ap (option_map placed) c.in_ok-address.ensures.ok_part in
     let none = c.in_ok-takes.ensures ∙ first_decides side a c.args.mark (Some c.args.first) c.in_ok-head.head c.in_ok-head.ensures.made c.in_ok-head.ensures.answer in
     let size = c.len.ensures.text ∙ ap length (line_head_is c.in_ok-head.head side a c.args.mark c.in_ok-head.ensures.made) in
-    let e = c.in_err-fits.ensures ∙ length_decides side c.args.address.now c.args.first.now c.args.mark a read (c.len.result + length c.args.first.now + 1 + 3) (length c.args.self.now.out.now) none (omega arith) in
+    let n = c.len.result + length c.args.first.now + 1 + 3 in
+    let room = length c.args.self.now.out.now in
+    let e = fault_of c.in_err-fits.ensures n room (omega arith) (omega arith) ∙ length_decides side c.args.address.now c.args.first.now c.args.mark a read n room none (omega arith) in
     let is : c.from_residual-in_err-fits.result ≡ Err c.in_err-fits.field-0.0 = search rules in
     record { called = search rules; short = search rules; never_long = never_too_long side c.args.address.now c.args.first.now c.args.mark (length c.args.self.now.out.now) _ (ap refusal is ∙ e) }
 
@@ -44,7 +47,8 @@ returns c =
     let read : address_of side c.args.address.now ≡ Some a = sym c.address_in.ensures ∙ ap (option_map placed) c.in_ok-address.ensures.ok_part in
     let none = c.in_ok-takes.ensures ∙ first_decides side a c.args.mark (Some c.args.first) c.in_ok-head.head c.in_ok-head.ensures.made c.in_ok-head.ensures.answer in
     let size = c.len.ensures.text ∙ ap length (line_head_is c.in_ok-head.head side a c.args.mark c.in_ok-head.ensures.made) in
-    let answer = c.in_ok-fits.ensures ∙ length_decides side c.args.address.now c.args.first.now c.args.mark a read (c.len.result + length c.args.first.now + 1 + 3) (length was) none (omega arith) in
+    let n = c.len.result + length c.args.first.now + 1 + 3 in
+    let answer = fault_of c.in_ok-fits.ensures n (length was) (omega arith) (omega arith) ∙ length_decides side c.args.address.now c.args.first.now c.args.mark a read n (length was) none (omega arith) in
     let forms = head_forms side a c.args.mark (is_first_field side c.args.first.now) none in
     record {
       called = record {
